@@ -1,0 +1,123 @@
+// What a command is about, and what it tells.
+ghost use Rattle.std.specs.Prelude.{◌≡◌, [], ◌∷◌, ◌++◌, List, OnOk, OnErr};
+
+use crate::roots::Roots;
+use crate::text::{Bytes, Text, Texts};
+use std::alloc::{AllocError, Global};
+use std::marker::Model;
+
+/// A version of a module package, as `hello/1.0`: a module, which is an `is_word`, and a version, which is an
+/// `is_version`.
+#[derive(Debug, Drop)]
+pub struct Key {
+    pub module: Text,
+    pub version: Text,
+}
+
+/// A kernel and an architecture, for which a package is built.
+#[derive(Debug, Drop)]
+pub struct Spot {
+    pub kernel: Text,
+    pub arch: Text,
+}
+
+/// A list of spots.
+#[derive(Debug, Drop)]
+pub struct SpotList {
+    items: Vec<Spot>,
+}
+
+impl Model for SpotList {
+    ghost use Rattle.std.specs.Prelude.{List};
+    ghost use Rattle.kb_world.specs.declared.job.Spot.{Spot};
+
+    ghost Value = { List Spot };
+
+    ghost view = { λ s. s.items.items };
+}
+
+impl SpotList {
+    /// No spots.
+    pub fn new(alloc: Global) -> SpotList
+        ensures { result ≡ [] }
+    {
+        SpotList {
+            items: Vec::new(alloc),
+        }
+    }
+
+    /// The spots, to be read.
+    pub fn as_slice(&self) -> &[Spot]
+        ensures { result.now ≡ self.now }
+    {
+        &self.items
+    }
+
+    /// Adds a spot at the end. An error changes nothing.
+    pub fn push(&mut self, spot: Spot) -> Result<(), AllocError>
+        ensures ok { OnOk result (self.new ≡ self.old ++ spot ∷ []) }
+        ensures err { OnErr result (self.new ≡ self.old) }
+    {
+        self.items.push(spot)?;
+        Ok(())
+    }
+}
+
+/// The spots that an action is for: those that the words list, or all where there is something to do.
+#[derive(Debug, Drop)]
+pub enum Spots {
+    Listed(SpotList),
+    All,
+}
+
+/// Which status lines are wanted. A name that is absent, or an empty list, leaves nothing out.
+#[derive(Debug, Drop)]
+pub struct Filter {
+    pub module: Option<Text>,
+    pub version: Option<Text>,
+    pub kernels: Texts,
+    pub arches: Texts,
+}
+
+/// Where the entry token comes from, as `--entry-token=` of kernel-install(8) says.
+#[derive(Debug, Drop)]
+pub enum TokenChoice {
+    Auto,
+    MachineId,
+    OsId,
+    OsImageId,
+    Literal(Text),
+}
+
+/// The kernel hook directories of Debian: before and after a kernel is put in place, and before and after it is
+/// taken away.
+#[derive(Clone, Copy, Debug, PartialEq, Eq)]
+pub enum HookKind {
+    Preinst,
+    Postinst,
+    Prerm,
+    Postrm,
+}
+
+/// The machine that a command runs on: its running kernel, where that is known, its architecture and its roots.
+#[derive(Debug, Drop)]
+pub struct Host {
+    pub kernel: Option<Text>,
+    pub arch: Text,
+    pub roots: Roots,
+}
+
+/// A command and where it runs.
+#[derive(Debug, Drop)]
+pub struct Job {
+    pub host: Host,
+    pub words: Texts,
+}
+
+/// What a command has to say so far, before any of it is written: the text for standard output and the text for
+/// standard error.
+#[derive(Debug, Drop)]
+pub struct Report {
+    pub out: Bytes,
+    pub err: Bytes,
+}

@@ -1,0 +1,26 @@
+//! The outside of kmodboot, as the layers above see it: a tree of files, a place to write text, and the names,
+//! paths and refusals that all layers share. A world and a sink are traits, so that the same program runs over a
+//! world in memory, which tells its tree, and over the real one, which doesn't.
+#![tactic(auto)]
+
+mod job;
+mod names;
+mod path;
+mod refusal;
+mod roots;
+mod sink;
+mod stop;
+mod text;
+mod tree;
+mod world;
+
+pub use job::{Filter, HookKind, Host, Job, Key, Report, Spot, SpotList, Spots, TokenChoice};
+pub use names::{is_arch, is_boot_word, is_kernel, is_name, is_version, is_word};
+pub use path::{Path, PathError};
+pub use refusal::Refusal;
+pub use roots::Roots;
+pub use sink::{Sink, SinkError};
+pub use stop::Stop;
+pub use text::{Bytes, Text, Texts};
+pub use tree::{Kind, Node};
+pub use world::{World, WorldError};

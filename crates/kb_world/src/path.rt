@@ -1,0 +1,141 @@
+// Paths of the tree, as lists of names from the root.
+ghost use Rattle.std.specs.Prelude.{◌≡◌, ◌≢◌, List, ℕ, [], IfOk, IsErrOf, IsTrue, Some, refl, nat_eq};
+ghost use Rattle.std.specs.Ordering.{nat_cmp};
+ghost use Rattle.std.specs.Cmp as laws_of;
+ghost use Rattle.std.specs.Cmp.Lexicographic.{pointwise, lists_total, lists_equiv, lists_ties, lists_po, nat_list_cmp_total, nat_list_eq_equiv, texts_ties};
+ghost use Rattle.kb_world.specs.Names.{is_name};
+ghost use Rattle.kb_world.specs.Path.{IsPath, path_text, child, is_under, path_cmp};
+ghost use Rattle.kb_world.specs.declared.path.PathError.TheVariants.{NotAPath, NoMemory};
+
+use crate::names::is_name;
+use crate::text::Text;
+use std::alloc::{AllocError, AllocFailed, Global};
+use std::cmp::Ordering;
+use std::marker::Model;
+
+/// A path of the tree: the list of names from the root, each of them an `is_name`. Paths are ordered name by name,
+/// each name by bytes, a path before those below it.
+#[derive(Debug, Drop)]
+pub struct Path {
+    names: Vec<Text>,
+}
+
+impl Model for Path {
+    ghost use Rattle.std.specs.Prelude.{List, ℕ, IsTrue};
+    ghost use Rattle.std.specs.List.{list_all};
+    ghost use Rattle.kb_world.specs.Names.{is_name};
+
+    ghost Value = { List (List ℕ) };
+
+    ghost view = { λ p. p.names.items };
+
+    ghost invariant = { λ p. IsTrue (list_all is_name p.names.items) };
+}
+
+/// Why a text isn't read as a path.
+#[derive(Clone, Copy, Debug, PartialEq, Eq)]
+pub enum PathError {
+    /// The text isn't `/`, and isn't a run of `/` and a name.
+    NotAPath,
+    NoMemory,
+}
+
+impl From<AllocError> for PathError {
+    ghost from_gives = { λ _ e. e ≡ NoMemory };
+
+    fn from(_: AllocError) -> Self {
+        PathError::NoMemory
+    }
+}
+
+impl<T: Drop> From<AllocFailed<T>> for PathError {
+    ghost from_gives = { λ _ e. e ≡ NoMemory };
+
+    fn from(_: AllocFailed<T>) -> Self {
+        PathError::NoMemory
+    }
+}
+
+impl Path {
+    /// The path of the root directory.
+    pub fn root(alloc: Global) -> Path
+        ensures { result ≡ [] }
+    {
+        Path {
+            names: Vec::new(alloc),
+        }
+    }
+
+    /// The path of the entry with this name in this directory.
+    pub fn child(&self, alloc: Global, name: &str) -> Result<Path, AllocError>
+        requires { IsTrue (is_name name.now) }
+        ensures { IfOk result (λ made. made ≡ child self.now name.now) }
+    {
+        let mut made = self.clone()?;
+        made.names.push(Text::of(alloc, name)?)?;
+        Ok(made)
+    }
+
+    /// The names from the root.
+    pub fn names(&self) -> &[Text]
+        ensures all { result.now ≡ self.now }
+        ensures named { IsPath self.now }
+    {
+        &self.names
+    }
+
+    /// Whether the path is the other or lies below it.
+    pub fn is_under(&self, other: &Path) -> bool
+        ensures { result ≡ is_under self.now other.now }
+    {
+        self.names.starts_with(&other.names)
+    }
+}
+
+impl Clone for Path {
+    ghost is_clone = { λ path made. made ≡ path };
+
+    fn clone(&self) -> Result<Self, AllocError> {
+        Ok(Path {
+            names: self.names.clone()?,
+        })
+    }
+}
+
+impl PartialEq for Path {
+    ghost eq = { pointwise (pointwise nat_eq) };
+
+    ghost laws = { laws_of.partial_equiv_from_equiv (lists_equiv nat_list_eq_equiv) };
+
+    fn eq(&self, other: &Self) -> bool {
+        self.names == other.names
+    }
+}
+
+impl Eq for Path {
+    ghost laws = { lists_equiv nat_list_eq_equiv };
+}
+
+impl PartialOrd for Path {
+    ghost partial_cmp = { λ a b. Some (path_cmp a b) };
+
+    ghost laws = { laws_of.po (lists_total nat_list_cmp_total) (lists_ties _ texts_ties) };
+
+    fn partial_cmp(&self, other: &Self) -> Option<Ordering> {
+        Some(self.cmp(other))
+    }
+}
+
+impl Ord for Path {
+    ghost cmp = { path_cmp };
+
+    ghost total = { lists_total nat_list_cmp_total };
+
+    ghost matches_partial_cmp = { λ a b. refl };
+
+    ghost matches_eq = { λ a b. lists_ties _ texts_ties a b };
+
+    fn cmp(&self, other: &Self) -> Ordering {
+        self.names.cmp(&other.names)
+    }
+}
