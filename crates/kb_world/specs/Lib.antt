@@ -1,7 +1,13 @@
+pub mod Does
 pub mod Names
+pub mod Outcome
 pub mod Path
+pub mod Public
 pub mod Roots
 pub mod SinkState
 pub mod State
+pub mod Steps
 pub mod Stop
+pub mod Store
 pub mod Tree
+pub mod TreeLaws
