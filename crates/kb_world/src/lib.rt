@@ -16,7 +16,7 @@ mod world;
 
 pub use job::{Filter, HookKind, Host, Job, Key, Report, Spot, SpotList, Spots, TokenChoice};
 pub use names::{is_arch, is_boot_word, is_kernel, is_name, is_version, is_word};
-pub use path::{Path, PathError};
+pub use path::{Path, PathError, text_tells_path};
 pub use refusal::Refusal;
 pub use roots::Roots;
 pub use sink::{Sink, SinkError};

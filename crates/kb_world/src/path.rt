@@ -1,5 +1,7 @@
 // Paths of the tree, as lists of names from the root.
-ghost use Rattle.std.specs.Prelude.{◌≡◌, ◌≢◌, List, ℕ, [], IfOk, IsErrOf, IsTrue, Some, refl, nat_eq};
+ghost use Rattle.std.specs.Prelude.{◌≡◌, ◌≢◌, ◌==◌, List, ℕ, [], ◌∷◌, IfOk, IsErrOf, IsTrue, MatchOption, Some, map, refl, nat_eq};
+ghost use Rattle.std.specs.List.{slice_split};
+ghost use Rattle.std.specs.Str.{byte};
 ghost use Rattle.std.specs.Ordering.{nat_cmp};
 ghost use Rattle.std.specs.Cmp as laws_of;
 ghost use Rattle.std.specs.Cmp.Lexicographic.{pointwise, lists_total, lists_equiv, lists_ties, lists_po, nat_list_cmp_total, nat_list_eq_equiv, texts_ties};
@@ -56,6 +58,36 @@ impl<T: Drop> From<AllocFailed<T>> for PathError {
     }
 }
 
+// What stands behind a leading `/`.
+fn after_slash(text: &str) -> Option<&str>
+    ensures { MatchOption result ((rest : List ℕ) → text.now ≢ byte "/" ∷ rest) (λ rest. text.now ≡ byte "/" ∷ rest.now) }
+{
+    text.strip_prefix('/')
+}
+
+// The parts of the text between its `/`s.
+fn parts_of(alloc: Global, text: &str) -> Result<Vec<&str>, AllocError>
+    ensures { IfOk result (λ parts. map (λ part. part.now) parts.items ≡ slice_split (λ c. c == byte "/") text.now) }
+{
+    text.split('/').collect(alloc)
+}
+
+// The parts, each of which must be a name.
+fn names_of(alloc: Global, parts: &[&str]) -> Result<Vec<Text>, PathError>
+    ensures names { IfOk result (λ names. names.items ≡ map (λ part. part.now) parts.now) }
+    ensures named { IfOk result (λ names. IsPath names.items) }
+    ensures not_a_path { IsErrOf result NotAPath → ¬ IsPath (map (λ part. part.now) parts.now) }
+{
+    let mut names = Vec::new(alloc);
+    for part in parts {
+        if !is_name(part) {
+            return Err(PathError::NotAPath);
+        }
+        names.push(Text::of(alloc, part)?)?;
+    }
+    Ok(names)
+}
+
 impl Path {
     /// The path of the root directory.
     pub fn root(alloc: Global) -> Path
@@ -64,6 +96,40 @@ impl Path {
         Path {
             names: Vec::new(alloc),
         }
+    }
+
+    /// The path with this text: `/` is the root's, any other is a run of `/` and a name.
+    pub fn parse(alloc: Global, text: &str) -> Result<Path, PathError>
+        ensures path { IfOk result (λ path. IsPath path × (path_text path ≡ text.now)) }
+        ensures not_a_path { IsErrOf result NotAPath → (path : List (List ℕ)) → IsPath path → path_text path ≢ text.now }
+    {
+        if text == "/" {
+            return Ok(Path::root(alloc));
+        }
+        match after_slash(text) {
+            Some(rest) => {
+                let parts = parts_of(alloc, rest)?;
+                Ok(Path {
+                    names: names_of(alloc, &parts)?,
+                })
+            }
+            None => Err(PathError::NotAPath),
+        }
+    }
+
+    /// The text of the path: `/` for the root, else a `/` and the name for each name.
+    pub fn text(&self, alloc: Global) -> Result<Text, AllocError>
+        ensures { IfOk result (λ text. text ≡ path_text self.now) }
+    {
+        if self.names.is_empty() {
+            return Text::of(alloc, "/");
+        }
+        let mut text = Text::of(alloc, "")?;
+        for name in &self.names {
+            text.push_str("/")?;
+            text.push_str(name.as_str())?;
+        }
+        Ok(text)
     }
 
     /// The path of the entry with this name in this directory.
@@ -139,3 +205,8 @@ impl Ord for Path {
         self.names.cmp(&other.names)
     }
 }
+
+/// A law: paths with one text are one path. So what is written as a text and parsed again is the same.
+pub fn text_tells_path()
+    ensures { (a b : List (List ℕ)) → IsPath a → IsPath b → path_text a ≡ path_text b → a ≡ b }
+{}
