@@ -2,3 +2,5 @@ pub mod NameLaws
 pub mod PathLaws
 pub mod PathText
 pub mod PublicLaws
+pub mod StepLaws
+pub mod Told
