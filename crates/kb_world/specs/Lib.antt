@@ -1,5 +1,7 @@
+pub mod Job
 pub mod Names
 pub mod Path
+pub mod Refusal
 pub mod Roots
 pub mod SinkState
 pub mod State
