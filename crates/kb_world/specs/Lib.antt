@@ -1,8 +1,10 @@
 pub mod Does
+pub mod Job
 pub mod Names
 pub mod Outcome
 pub mod Path
 pub mod Public
+pub mod Refusal
 pub mod Roots
 pub mod SinkState
 pub mod State

@@ -1,9 +1,11 @@
 // What a command is about, and what it tells.
-ghost use Rattle.std.specs.Prelude.{◌≡◌, [], ◌∷◌, ◌++◌, List, OnOk, OnErr};
+ghost use Rattle.std.specs.Prelude.{◌≡◌, [], ◌∷◌, ◌++◌, List, OnOk, OnErr, Some};
+ghost use Rattle.kb_world.specs.Job.{key_text, spot_text};
 
 use crate::roots::Roots;
 use crate::text::{Bytes, Text, Texts};
 use std::alloc::{AllocError, Global};
+use std::fmt;
 use std::marker::Model;
 
 /// A version of a module package, as `hello/1.0`: a module, which is an `is_word`, and a version, which is an
@@ -14,11 +16,31 @@ pub struct Key {
     pub version: Text,
 }
 
+impl fmt::Display for Key {
+    ghost output = { λ key. Some (key_text key) };
+
+    fn fmt<W: fmt::Write>(&self, f: &mut fmt::Formatter<W>) -> fmt::Result {
+        let module = &self.module;
+        let version = &self.version;
+        write!(f, "{module}/{version}")
+    }
+}
+
 /// A kernel and an architecture, for which a package is built.
 #[derive(Debug, Drop)]
 pub struct Spot {
     pub kernel: Text,
     pub arch: Text,
+}
+
+impl fmt::Display for Spot {
+    ghost output = { λ spot. Some (spot_text spot) };
+
+    fn fmt<W: fmt::Write>(&self, f: &mut fmt::Formatter<W>) -> fmt::Result {
+        let kernel = &self.kernel;
+        let arch = &self.arch;
+        write!(f, "{kernel}, {arch}")
+    }
 }
 
 /// A list of spots.

@@ -17,7 +17,7 @@ mod world;
 pub use job::{Filter, HookKind, Host, Job, Key, Report, Spot, SpotList, Spots, TokenChoice};
 pub use names::{is_arch, is_boot_word, is_kernel, is_name, is_version, is_word};
 pub use path::{Path, PathError, text_tells_path};
-pub use refusal::Refusal;
+pub use refusal::{Refusal, bad_boot_line, bad_root_line, fault_line, message, no_memory_line};
 pub use roots::Roots;
 pub use sink::{Sink, SinkError};
 pub use stop::Stop;

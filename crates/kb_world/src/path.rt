@@ -13,6 +13,7 @@ use crate::names::is_name;
 use crate::text::Text;
 use std::alloc::{AllocError, AllocFailed, Global};
 use std::cmp::Ordering;
+use std::fmt;
 use std::marker::Model;
 
 /// A path of the tree: the list of names from the root, each of them an `is_name`. Paths are ordered name by name,
@@ -121,15 +122,7 @@ impl Path {
     pub fn text(&self, alloc: Global) -> Result<Text, AllocError>
         ensures { IfOk result (λ text. text ≡ path_text self.now) }
     {
-        if self.names.is_empty() {
-            return Text::of(alloc, "/");
-        }
-        let mut text = Text::of(alloc, "")?;
-        for name in &self.names {
-            text.push_str("/")?;
-            text.push_str(name.as_str())?;
-        }
-        Ok(text)
+        Ok(Text::from_string(self.to_string(alloc)?))
     }
 
     /// The path of the entry with this name in this directory.
@@ -165,6 +158,20 @@ impl Clone for Path {
         Ok(Path {
             names: self.names.clone()?,
         })
+    }
+}
+
+impl fmt::Display for Path {
+    ghost output = { λ path. Some (path_text path) };
+
+    fn fmt<W: fmt::Write>(&self, f: &mut fmt::Formatter<W>) -> fmt::Result {
+        if self.names.is_empty() {
+            return f.write_str("/");
+        }
+        for name in &self.names {
+            write!(f, "/{name}")?;
+        }
+        Ok(())
     }
 }
 

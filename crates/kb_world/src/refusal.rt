@@ -1,7 +1,12 @@
 // Why a command is refused. Each refusal has a number, which is the exit status, and a line of its own.
+ghost use Rattle.std.specs.Prelude.{◌≡◌, IfOk, Some};
+ghost use Rattle.kb_world.specs.Refusal as line;
+
 use crate::job::{Key, Spot};
 use crate::path::Path;
 use crate::text::Text;
+use std::alloc::{AllocError, Global};
+use std::fmt;
 
 /// Why a command is refused. The value that a refusal carries is the one that stands where its cause does.
 #[derive(Debug, Drop)]
@@ -63,4 +68,114 @@ pub enum Refusal {
     NoRoot { path: Path },
     /// 28: a directory tree has too many entries, or is too deep, from this path on.
     TooMany { path: Path },
+}
+
+impl Refusal {
+    /// The number of the refusal, from 1 to 28, which is the program's exit status.
+    pub fn number(&self) -> u8
+        ensures { result ≡ line.number_of self.now }
+    {
+        match self {
+            Refusal::Usage { .. } => 1,
+            Refusal::BadName { .. } => 2,
+            Refusal::NotAdded { .. } => 3,
+            Refusal::AlreadyAdded { .. } => 4,
+            Refusal::NoSource { .. } => 5,
+            Refusal::SourceThere { .. } => 6,
+            Refusal::ConfLine { .. } => 7,
+            Refusal::ConfMissing { .. } => 8,
+            Refusal::ConfValue { .. } => 9,
+            Refusal::ConfMismatch { .. } => 10,
+            Refusal::Excluded { .. } => 11,
+            Refusal::NoKernel { .. } => 12,
+            Refusal::AlreadyBuilt { .. } => 13,
+            Refusal::NotBuilt { .. } => 14,
+            Refusal::AlreadyInstalled { .. } => 15,
+            Refusal::NotInstalled { .. } => 16,
+            Refusal::NoModule { .. } => 17,
+            Refusal::Claimed { .. } => 18,
+            Refusal::Changed { .. } => 19,
+            Refusal::Damaged { .. } => 20,
+            Refusal::ChildFailed { .. } => 21,
+            Refusal::NoImage { .. } => 22,
+            Refusal::NoToken => 23,
+            Refusal::ImageInside { .. } => 24,
+            Refusal::TooLarge { .. } => 25,
+            Refusal::Archive { .. } => 26,
+            Refusal::NoRoot { .. } => 27,
+            Refusal::TooMany { .. } => 28,
+        }
+    }
+}
+
+impl fmt::Display for Refusal {
+    ghost output = { λ refusal. Some (line.refusal_text refusal) };
+
+    fn fmt<W: fmt::Write>(&self, f: &mut fmt::Formatter<W>) -> fmt::Result {
+        match self {
+            Refusal::Usage { place } => write!(f, "usage error at word {place}"),
+            Refusal::BadName { name } => write!(f, "bad name: {name}"),
+            Refusal::NotAdded { key } => write!(f, "{key}: not added"),
+            Refusal::AlreadyAdded { key } => write!(f, "{key}: already added"),
+            Refusal::NoSource { path } => write!(f, "no source: {path}"),
+            Refusal::SourceThere { path } => write!(f, "source exists: {path}"),
+            Refusal::ConfLine { line } => write!(f, "dkms.conf line {line}"),
+            Refusal::ConfMissing { name } => write!(f, "dkms.conf lacks {name}"),
+            Refusal::ConfValue { name } => write!(f, "dkms.conf has a bad {name}"),
+            Refusal::ConfMismatch { key } => write!(f, "dkms.conf is of {key}"),
+            Refusal::Excluded { key, spot } => write!(f, "{key}: not for {spot}"),
+            Refusal::NoKernel { path } => write!(f, "no kernel: {path}"),
+            Refusal::AlreadyBuilt { key } => write!(f, "{key}: already built"),
+            Refusal::NotBuilt { key } => write!(f, "{key}: not built"),
+            Refusal::AlreadyInstalled { key } => write!(f, "{key}: already installed"),
+            Refusal::NotInstalled { key } => write!(f, "{key}: not installed"),
+            Refusal::NoModule { name } => write!(f, "the build left no {name}.ko"),
+            Refusal::Claimed { path, module } => write!(f, "{path}: belongs to {module}"),
+            Refusal::Changed { path } => write!(f, "{path}: changed"),
+            Refusal::Damaged { path } => write!(f, "{path}: damaged"),
+            Refusal::ChildFailed { which, code } => write!(f, "{which} ended with {code}"),
+            Refusal::NoImage { path } => write!(f, "no image: {path}"),
+            Refusal::NoToken => write!(f, "no entry token"),
+            Refusal::ImageInside { path } => write!(f, "{path}: inside the entry directory"),
+            Refusal::TooLarge { path } => write!(f, "{path}: too large"),
+            Refusal::Archive { word } => write!(f, "archives are not supported: {word}"),
+            Refusal::NoRoot { path } => write!(f, "no directory: {path}"),
+            Refusal::TooMany { path } => write!(f, "{path}: too many entries"),
+        }
+    }
+}
+
+/// The line that standard error ends with where a command is refused, its line feed included.
+pub fn message(alloc: Global, refusal: &Refusal) -> Result<Text, AllocError>
+    ensures { IfOk result (λ text. text ≡ line.message_of refusal.now) }
+{
+    Ok(Text::from_string(format!(in alloc; "kmodboot: {refusal}\n")?))
+}
+
+/// The line of a call of the world that failed.
+pub fn fault_line() -> &'static str
+    ensures { result.now ≡ line.fault_line }
+{
+    "kmodboot: a file or program call failed\n"
+}
+
+/// The line of a command that found no memory.
+pub fn no_memory_line() -> &'static str
+    ensures { result.now ≡ line.no_memory_line }
+{
+    "kmodboot: out of memory\n"
+}
+
+/// The line of a KMODBOOT_ROOT that is no path.
+pub fn bad_root_line() -> &'static str
+    ensures { result.now ≡ line.bad_root_line }
+{
+    "kmodboot: bad KMODBOOT_ROOT\n"
+}
+
+/// The line of a KMODBOOT_BOOT that can't be a root.
+pub fn bad_boot_line() -> &'static str
+    ensures { result.now ≡ line.bad_boot_line }
+{
+    "kmodboot: bad KMODBOOT_BOOT\n"
 }
