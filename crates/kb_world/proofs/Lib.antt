@@ -1,3 +1,4 @@
+pub mod DoesLaws
 pub mod NameLaws
 pub mod PathLaws
 pub mod PathText

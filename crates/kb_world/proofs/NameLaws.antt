@@ -66,7 +66,7 @@ word-is_name name h = let w = known name h in named name (omega (arith, w.short)
 pub version-is_word : (name : List ℕ) → is_version name ≡ true → is_word name ≡ true
 version-is_word name h = first_so (is_word name) _ (first_so (is_word name && not (bytes_eq name (codes "original_module"))) _ h)
 
-begins-append : (a b : List ℕ) → begins_alphanumeric a ≡ true → begins_alphanumeric (a ++ b) ≡ true
+pub begins-append : (a b : List ℕ) → begins_alphanumeric a ≡ true → begins_alphanumeric (a ++ b) ≡ true
 begins-append [] b h = let q : true ≡ false = sym h in cc
 begins-append (c ∷ a) b h = h
 
