@@ -19,7 +19,7 @@ use Rattle.kb_world.specs.declared.refusal.Refusal.TheVariants as refusal
 use Rattle.kb_world.specs.declared.tree.Node.{Node}
 use Rattle.kb_world.specs.declared.stop.Stop.{Stop}
 use Rattle.kb_world.specs.declared.stop.Stop.TheVariants.{Refused, Fault, NoMemory}
-use Rattle.kb_world.proofs.DoesLaws.{cause_then, came_refused, came_done}
+use Rattle.kb_world.proofs.DoesLaws.{does_refused, does_passed, does_transaction}
 use Rattle.kb_world.proofs.Told.{told_before}
 use Rattle.kb_world.proofs.StepLaws.{parent-child}
 use Rattle.kb_top.specs.declared.add.Places.{Places}
@@ -31,22 +31,17 @@ use Rattle.kb_top.proofs.AddLaws.{refusal_shown, step_shown, step_keeps_foreign}
 pub nested : (roots : Roots) (key : Key) → IsNested (places_of roots key)
 nested roots key = record { version = key.version; link = codes "source"; version_is = refl; link_is = refl }
 
--- what is due at the places of a package is due by the public tree
-due_at : (roots : Roots) → AreApart roots → (key : Key) → is_key key ≡ true → (places : Places) → places ≡ places_of roots key → (tree : Tree) (due : Option Refusal)
-    → place_refusal key places tree ≡ due → add_refusal roots key (public_tree roots tree) ≡ due
-due_at roots apart key good places are tree due is = sym (refusal_shown roots apart key good tree) ∙ sym (ap (λ p. place_refusal key p tree) are) ∙ is
+-- what is read at the places of a package is what the public tree gives
+read_at : (roots : Roots) → AreApart roots → (key : Key) → is_key key ≡ true → (places : Places) → places ≡ places_of roots key → (tree : Tree)
+    → place_refusal key places tree ≡ add_refusal roots key (public_tree roots tree)
+read_at roots apart key good places are tree = ap (λ p. place_refusal key p tree) are ∙ refusal_shown roots apart key good tree
 
 -- where it is refused
 pub add_refused : (roots : Roots) → AreApart roots → (key : Key) → is_key key ≡ true → (places : Places) → places ≡ places_of roots key
     → (old mid : State) (report : Report) (stop : Stop) → Decides (place_refusal key places) {T = Unit {0}} old mid (Err stop)
     → Does roots (add roots key) {T = Unit {0}} old mid report report (Err stop)
-add_refused roots apart key good places are old mid report (Refused refusal) d = record {
-  answers = λ tree told. came_refused roots (add_refusal roots key) (transaction (add_step roots key) (added_line key)) tree mid.tree refusal report (due_at roots apart key good places are tree (Some refusal) (d.agrees tree told)) (d.tree ∙ told);
-  same_roots = d.roots;
-  cause = d.cause;
-}
-add_refused roots apart key good places are old mid report Fault d = record { answers = λ tree told. tt; same_roots = d.roots; cause = d.cause }
-add_refused roots apart key good places are old mid report NoMemory d = record { answers = λ tree told. tt; same_roots = d.roots; cause = d.cause }
+add_refused roots apart key good places are old mid report stop d =
+    does_refused roots (place_refusal key places) (add_refusal roots key) (transaction (add_step roots key) (added_line key)) old mid report stop (read_at roots apart key good places are) d
 
 -- where no refusal is due, the link can be made
 nothing_first : {A : Type 0} (a b : Option A) → option_or a b ≡ None → a ≡ None
@@ -92,19 +87,9 @@ pub add_ends : (roots : Roots) → AreApart roots → (key : Key) → is_key key
     → (old mid new : State) (before after : Report) (result : Result (Unit {0}) Stop) → Decides (place_refusal key places) {T = Unit {0}} old mid (Ok tt)
     → Transforms (place_step places) mid new result → after.out ≡ before.out ++ added_line key → after.err ≡ before.err
     → Does roots (add roots key) old new before after result
-add_ends roots apart key good places are old mid new before after result d t out err = record {
-  answers = λ tree told. by_result result t tree told;
-  same_roots = t.roots ∙ d.roots;
-  cause = cause_then Fault old mid new (Ok tt) result d.cause t.cause;
-}
-  where
-    by_result : (r : Result (Unit {0}) Stop) → Transforms (place_step places) mid new r → (tree : Tree) → old.tree ≡ Some tree
-      → Answers roots (add roots key (public_tree roots tree) (foreign_tree roots tree)) r new.tree before after
-    by_result (Ok u) t tree told =
-        let stepped : Tree = place_step (places_of roots key) tree in
-        let now : new.tree ≡ Some stepped = t.done ∙ ap (option_map (place_step places)) (d.tree ∙ told) ∙ ap (λ p. Some (place_step p tree)) are in
-        came_done roots (add_refusal roots key) (add_step roots key) (added_line key) tree stepped new.tree before after
-          (due_at roots apart key good places are tree None (d.agrees tree told)) now (step_shown roots apart key good tree) (step_keeps_foreign roots apart key good tree) out err
-    by_result (Err (Refused refusal)) t tree told = absurd (t.unrefused refusal refl)
-    by_result (Err Fault) t tree told = tt
-    by_result (Err NoMemory) t tree told = tt
+add_ends roots apart key good places are old mid new before after result d t out err =
+    does_passed roots (place_refusal key places) (add_refusal roots key) (transaction (add_step roots key) (added_line key)) old mid new before after result
+      (read_at roots apart key good places are) d
+      (does_transaction roots (place_step places) (add_step roots key) (added_line key) mid new before after result
+        (λ tree. ap (λ p. public_tree roots (place_step p tree)) are ∙ step_shown roots apart key good tree)
+        (λ tree. ap (λ p. foreign_tree roots (place_step p tree)) are ∙ step_keeps_foreign roots apart key good tree) t out err)

@@ -1,3 +1,4 @@
 pub mod AddLaws
 pub mod DoesAdd
 pub mod PlaceLaws
+pub mod ServeLaws

@@ -1,2 +1,6 @@
 pub mod Add
+pub mod Machine
 pub mod Places
+pub mod Read
+pub mod Serve
+pub mod Words

@@ -2,3 +2,5 @@
 #![tactic(auto)]
 
 mod add;
+mod serve;
+mod words;

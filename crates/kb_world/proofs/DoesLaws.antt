@@ -5,7 +5,7 @@ use Rattle.std.specs.Prelude.{IsErrOf, IsTrue, Result, Ok, Err, option_map}
 use Rattle.kb_world.specs.Tree.{Tree}
 use Rattle.kb_world.specs.State.{State, HasCause, Rose}
 use Rattle.kb_world.specs.Public.{public_tree, foreign_tree}
-use Rattle.kb_world.specs.Outcome.{Outcome, Action, refuse_if, unless, transaction, go_on, last_store, ◌then◌}
+use Rattle.kb_world.specs.Outcome.{Outcome, Action, refuse_if, unless, transaction, go_on, last_of, ◌then◌}
 use Rattle.kb_world.specs.Does.{CameAbout, IsTreeOf, Does, Decides, Transforms, Answers}
 use Rattle.kb_world.specs.declared.roots.Roots.{Roots}
 use Rattle.kb_world.specs.declared.job.Report.{Report}
@@ -26,37 +26,94 @@ cause_then error old mid new first second a b = record {
   never = λ is failed. b.never (a.steady is) failed;
 }
 
--- ---- an action that is a refusal or one transaction
+-- ---- an action that may be refused first
 
-refused_outcome : (due : Tree → Option Refusal) (second : Action) (store foreign : Tree) (refusal : Refusal) → due store ≡ Some refusal
+-- the refusal reads what is public alone
+abbrev pub IsShown : Roots → (Tree → Option Refusal) → Type 0
+IsShown roots due = (tree : Tree) → due tree ≡ due (public_tree roots tree)
+
+pub unless_refused : (due : Tree → Option Refusal) (second : Action) (store foreign : Tree) (refusal : Refusal) → due store ≡ Some refusal
     → (unless due then second) store foreign ≡ refuse_if (Some refusal) store foreign
-refused_outcome due second store foreign refusal is = ap (λ d. go_on (refuse_if d store foreign) second) is
+unless_refused due second store foreign refusal is = ap (λ d. go_on store (refuse_if d store foreign) second) is
 
-done_outcome : (due : Tree → Option Refusal) (step : Tree → Tree) (line : List ℕ) (store foreign : Tree) → due store ≡ None
-    → (unless due then transaction step line) store foreign ≡ record { start = store; after = step store ∷ []; out = line; err = []; end = None; foreign = foreign }
-done_outcome due step line store foreign is = ap (λ d. go_on (refuse_if d store foreign) (transaction step line)) is
+pub unless_passed : (due : Tree → Option Refusal) (second : Action) (store foreign : Tree) → due store ≡ None → (unless due then second) store foreign ≡ second store foreign
+unless_passed due second store foreign is = ap (λ d. go_on store (refuse_if d store foreign) second) is
 
+-- a refusal, and the tree and the report as they were
 pub came_refused : (roots : Roots) (due : Tree → Option Refusal) (second : Action) (tree : Tree) (now : Option Tree) (refusal : Refusal) (report : Report)
     → due (public_tree roots tree) ≡ Some refusal → now ≡ Some tree
-    → CameAbout roots ((unless due then second) (public_tree roots tree) (foreign_tree roots tree)) (Some refusal) now report report
+    → CameAbout roots (public_tree roots tree) ((unless due then second) (public_tree roots tree) (foreign_tree roots tree)) (Some refusal) now report report
 came_refused roots due second tree now refusal report is told =
-    let P : Outcome → Type 0 = λ outcome. CameAbout roots outcome (Some refusal) now report report in
-    subst P (sym (refused_outcome due second (public_tree roots tree) (foreign_tree roots tree) refusal is)) (record {
+    let P : Outcome → Type 0 = λ outcome. CameAbout roots (public_tree roots tree) outcome (Some refusal) now report report in
+    subst P (sym (unless_refused due second (public_tree roots tree) (foreign_tree roots tree) refusal is)) (record {
       end = refl;
       tree = (tree, told, record { public_part = refl; foreign_part = refl });
       out = sym (append-nil report.out);
       err = sym (append-nil report.err);
     })
 
-pub came_done : (roots : Roots) (due : Tree → Option Refusal) (step : Tree → Tree) (line : List ℕ) (tree new : Tree) (now : Option Tree) (before after : Report)
-    → due (public_tree roots tree) ≡ None → now ≡ Some new → public_tree roots new ≡ step (public_tree roots tree) → foreign_tree roots new ≡ foreign_tree roots tree
-    → after.out ≡ before.out ++ line → after.err ≡ before.err
-    → CameAbout roots ((unless due then transaction step line) (public_tree roots tree) (foreign_tree roots tree)) None now before after
-came_done roots due step line tree new now before after is told stepped kept out err =
-    let P : Outcome → Type 0 = λ outcome. CameAbout roots outcome None now before after in
-    subst P (sym (done_outcome due step line (public_tree roots tree) (foreign_tree roots tree) is)) (record {
+-- the call that decides on the refusal was refused
+pub does_refused : (roots : Roots) (read due : Tree → Option Refusal) (second : Action) (old mid : State) (report : Report) (stop : Stop)
+    → ((tree : Tree) → read tree ≡ due (public_tree roots tree)) → Decides read {T = Unit {0}} old mid (Err stop)
+    → Does roots (unless due then second) {T = Unit {0}} old mid report report (Err stop)
+does_refused roots read due second old mid report (Refused refusal) same d = record {
+  answers = λ tree told. came_refused roots due second tree mid.tree refusal report (sym (same tree) ∙ d.agrees tree told) (d.tree ∙ told);
+  same_roots = d.roots;
+  cause = d.cause;
+}
+does_refused roots read due second old mid report Fault same d = record { answers = λ tree told. tt; same_roots = d.roots; cause = d.cause }
+does_refused roots read due second old mid report NoMemory same d = record { answers = λ tree told. tt; same_roots = d.roots; cause = d.cause }
+
+-- it wasn't, and the second part does what it does
+pub does_passed : (roots : Roots) (read due : Tree → Option Refusal) (second : Action) (old mid new : State) (before after : Report) (result : Result (Unit {0}) Stop)
+    → ((tree : Tree) → read tree ≡ due (public_tree roots tree)) → Decides read {T = Unit {0}} old mid (Ok tt) → Does roots second mid new before after result
+    → Does roots (unless due then second) old new before after result
+does_passed roots read due second old mid new before after result same d e = record {
+  answers = λ tree told.
+    let P : Outcome → Type 0 = λ outcome. Answers roots (public_tree roots tree) outcome result new.tree before after in
+    subst P (sym (unless_passed due second (public_tree roots tree) (foreign_tree roots tree) (sym (same tree) ∙ d.agrees tree told))) (e.answers tree (d.tree ∙ told));
+  same_roots = e.same_roots ∙ d.roots;
+  cause = cause_then Fault old mid new (Ok tt) result d.cause e.cause;
+}
+
+-- ---- an action that is one transaction
+
+pub does_transaction : (roots : Roots) (change step : Tree → Tree) (line : List ℕ) (old new : State) (before after : Report) (result : Result (Unit {0}) Stop)
+    → ((tree : Tree) → public_tree roots (change tree) ≡ step (public_tree roots tree)) → ((tree : Tree) → foreign_tree roots (change tree) ≡ foreign_tree roots tree)
+    → Transforms change old new result → after.out ≡ before.out ++ line → after.err ≡ before.err
+    → Does roots (transaction step line) old new before after result
+does_transaction roots change step line old new before after result steps keeps t out err = record {
+  answers = λ tree told. by_result result t tree told;
+  same_roots = t.roots;
+  cause = t.cause;
+}
+  where
+    by_result : (r : Result (Unit {0}) Stop) → Transforms change old new r → (tree : Tree) → old.tree ≡ Some tree
+      → Answers roots (public_tree roots tree) (transaction step line (public_tree roots tree) (foreign_tree roots tree)) r new.tree before after
+    by_result (Ok u) t tree told = record {
       end = refl;
-      tree = (new, told, record { public_part = stepped; foreign_part = kept });
+      tree = (change tree, t.done ∙ ap (option_map change) told, record { public_part = steps tree; foreign_part = keeps tree });
       out = out;
       err = err ∙ sym (append-nil before.err);
-    })
+    }
+    by_result (Err (Refused refusal)) t tree told = absurd (t.unrefused refusal refl)
+    by_result (Err Fault) t tree told = tt
+    by_result (Err NoMemory) t tree told = tt
+
+-- ---- causes of calls that end without a fault
+
+pub cause_other : {T U : Type 0} (old new : State) (first : Result T Stop) (second : Result U Stop) → HasCause Fault old new first → (IsErrOf second Fault → ⊥) → HasCause Fault old new second
+cause_other old new first second a never = record {
+  later = a.later;
+  rose = λ failed. absurd (never failed);
+  steady = a.steady;
+  never = λ is failed. never failed;
+}
+
+pub no_cause : {T : Type 0} (old : State) (value : T) → HasCause Fault old old (Ok value)
+no_cause old value = record {
+  later = omega arith;
+  rose = λ failed. let impossible : Ok value ≡ Err Fault = failed in cc;
+  steady = λ is. is;
+  never = λ is failed. let impossible : Ok value ≡ Err Fault = failed in cc;
+}

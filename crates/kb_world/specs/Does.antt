@@ -4,7 +4,7 @@ use Rattle.std.specs.Option.{ForSome}
 use Rattle.kb_world.specs.Tree.{Tree}
 use Rattle.kb_world.specs.Public.{public_tree, foreign_tree}
 use Rattle.kb_world.specs.State.{State, HasCause}
-use Rattle.kb_world.specs.Outcome.{Outcome, Action, last_store}
+use Rattle.kb_world.specs.Outcome.{Outcome, Action, last_of}
 use Rattle.kb_world.specs.declared.roots.Roots.{Roots}
 use Rattle.kb_world.specs.declared.job.Report.{Report}
 use Rattle.kb_world.specs.declared.refusal.Refusal.{Refusal}
@@ -39,21 +39,21 @@ pub record IsTreeOf (roots : Roots) (store foreign tree : Tree) : Type 0 where
   pub foreign_part : foreign_tree roots tree ≡ foreign
 
 -- the outcome came about: the tree is that of its last store, and its texts were added to the report
-pub record CameAbout (roots : Roots) (outcome : Outcome) (due : Option Refusal) (now : Option Tree) (before after : Report) : Type 0 where
+pub record CameAbout (roots : Roots) (store : Tree) (outcome : Outcome) (due : Option Refusal) (now : Option Tree) (before after : Report) : Type 0 where
   pub end : outcome.end ≡ due
-  pub tree : (tree : Tree) × (now ≡ Some tree) × IsTreeOf roots (last_store outcome) outcome.foreign tree
+  pub tree : (tree : Tree) × (now ≡ Some tree) × IsTreeOf roots (last_of store outcome.after) outcome.foreign tree
   pub out : after.out ≡ before.out ++ outcome.out
   pub err : after.err ≡ before.err ++ outcome.err
 
 -- where the call ends with an answer, the outcome came about
-abbrev pub Answers : {T : Type 0} → Roots → Outcome → Result T Stop → Option Tree → Report → Report → Type 0
-Answers roots outcome (Ok value) now before after = CameAbout roots outcome None now before after
-Answers roots outcome (Err (Refused refusal)) now before after = CameAbout roots outcome (Some refusal) now before after
-Answers roots outcome (Err Fault) now before after = Unit {0}
-Answers roots outcome (Err NoMemory) now before after = Unit {0}
+abbrev pub Answers : {T : Type 0} → Roots → Tree → Outcome → Result T Stop → Option Tree → Report → Report → Type 0
+Answers roots store outcome (Ok value) now before after = CameAbout roots store outcome None now before after
+Answers roots store outcome (Err (Refused refusal)) now before after = CameAbout roots store outcome (Some refusal) now before after
+Answers roots store outcome (Err Fault) now before after = Unit {0}
+Answers roots store outcome (Err NoMemory) now before after = Unit {0}
 
 -- The one clause of an action: over a told tree the call does it.
 pub record Does (roots : Roots) (action : Action) {T : Type 0} (old new : State) (before after : Report) (result : Result T Stop) : Type 0 where
-  pub answers : ForSome old.tree (λ tree. Answers roots (action (public_tree roots tree) (foreign_tree roots tree)) result new.tree before after)
+  pub answers : ForSome old.tree (λ tree. let store = public_tree roots tree in Answers roots store (action store (foreign_tree roots tree)) result new.tree before after)
   pub same_roots : new.roots ≡ old.roots
   pub cause : HasCause Fault old new result

@@ -1,0 +1,158 @@
+-- What a command needs is public, and what it does is the machine's.
+use Rattle.std.proofs.Common.{◌≡◌, ℕ, ◌+◌, Bool, true, false, cond, ◌&&◌, List, [], ◌++◌, Option, Some, None, is_some, refl, sym, ap, ◌∙◌, subst}
+use Rattle.std.specs.Prelude.{Result, Ok, Err, IsTrue, IsErrOf}
+use Rattle.std.proofs.lemmas.List.{append-nil}
+use Rattle.kb_world.specs.Names.{is_word, is_version}
+use Rattle.kb_world.specs.Path.{Path}
+use Rattle.kb_world.specs.Tree.{Tree, node_at}
+use Rattle.kb_world.specs.Roots.{AreApart}
+use Rattle.kb_world.specs.State.{State, HasCause}
+use Rattle.kb_world.specs.Store.{is_key}
+use Rattle.kb_world.specs.Public.{public_tree, foreign_tree, intent_path}
+use Rattle.kb_world.specs.Outcome.{Outcome, refuse_if, print}
+use Rattle.kb_world.specs.Does.{Does, Decides, Answers, CameAbout}
+use Rattle.kb_world.specs.declared.roots.Roots.{Roots}
+use Rattle.kb_world.specs.declared.job.Key.{Key}
+use Rattle.kb_world.specs.declared.job.Report.{Report}
+use Rattle.kb_world.specs.declared.refusal.Refusal.{Refusal}
+use Rattle.kb_world.specs.declared.refusal.Refusal.TheVariants as refusal
+use Rattle.kb_world.specs.declared.stop.Stop.{Stop}
+use Rattle.kb_world.specs.declared.stop.Stop.TheVariants.{Refused, Fault, NoMemory}
+use Rattle.kb_world.proofs.PublicLaws.{IsAlwaysPublic, in_dkms, in_src, shown}
+use Rattle.kb_world.proofs.DoesLaws.{cause_then, cause_other, no_cause}
+use Rattle.kb_top.specs.declared.words.Command.{Command}
+use Rattle.kb_top.specs.declared.words.Command.TheVariants as command
+use Rattle.kb_top.specs.Words.{Word, bad_name, reading, read_as, checked, command_of, known_words}
+use Rattle.kb_top.specs.Read.{IsRead}
+use Rattle.kb_top.specs.Add.{no_root}
+use Rattle.kb_top.specs.Serve.{Serves}
+use Rattle.kb_top.specs.Machine.{no_roots_of_add, perform, perform_read, machine, standing_intent, by_intent, outcome_of}
+
+-- a key without a bad name keeps its rules
+pub good_key : (key : Key) → bad_name (command.Add key) ≡ None → is_key key ≡ true
+good_key key e = by_case (is_word key.module) (is_version key.version) refl refl
+  where
+    by_case : (m v : Bool) → is_word key.module ≡ m → is_version key.version ≡ v → is_key key ≡ true
+    by_case true true hm hv = (λ i. hm i && hv i)
+    by_case true false hm hv =
+        let found = ap (λ b. cond b (cond (is_version key.version) None (Some key.version)) (Some key.module)) hm ∙ ap (λ b. cond b None (Some key.version)) hv in
+        let impossible : Some key.version ≡ None = sym found ∙ e in cc
+    by_case false v hm hv =
+        let found = ap (λ b. cond b (cond (is_version key.version) None (Some key.version)) (Some key.module)) hm in
+        let impossible : Some key.module ≡ None = sym found ∙ e in cc
+
+dkms_public : (roots : Roots) → AreApart roots → IsAlwaysPublic roots roots.dkms
+dkms_public roots apart = subst (IsAlwaysPublic roots) (append-nil roots.dkms) (in_dkms roots apart [] refl refl)
+
+src_public : (roots : Roots) → AreApart roots → IsAlwaysPublic roots roots.src
+src_public roots apart = subst (IsAlwaysPublic roots) (append-nil roots.src) (in_src roots apart [] refl)
+
+same_roots_of_add : (roots : Roots) (a b : Tree) → node_at a roots.dkms ≡ node_at b roots.dkms → node_at a roots.src ≡ node_at b roots.src → no_roots_of_add roots a ≡ no_roots_of_add roots b
+same_roots_of_add roots a b dkms src = cc
+
+pub roots_shown : (roots : Roots) → AreApart roots → (tree : Tree) → no_roots_of_add roots tree ≡ no_roots_of_add roots (public_tree roots tree)
+roots_shown roots apart tree = same_roots_of_add roots tree (public_tree roots tree) (sym (shown roots tree roots.dkms (dkms_public roots apart))) (sym (shown roots tree roots.src (src_public roots apart)))
+
+-- ---- help
+
+pub help_printed : (roots : Roots) (text : List ℕ) (old : State) (before after : Report) → after.out ≡ before.out ++ text → after.err ≡ before.err
+    → Does roots (print text) {T = Unit {0}} old old before after (Ok tt)
+help_printed roots text old before after out err = record {
+  answers = λ tree told. record {
+    end = refl;
+    tree = (tree, told, record { public_part = refl; foreign_part = refl });
+    out = out;
+    err = err ∙ sym (append-nil before.err);
+  };
+  same_roots = refl;
+  cause = no_cause old tt;
+}
+
+-- ---- the whole command
+
+-- the outcome of a refusal that comes before all else
+came_at_once : (roots : Roots) (why : Refusal) (tree : Tree) (now : Option Tree) (report : Report) → now ≡ Some tree
+    → CameAbout roots (public_tree roots tree) (refuse_if (Some why) (public_tree roots tree) (foreign_tree roots tree)) (Some why) now report report
+came_at_once roots why tree now report told = record {
+  end = refl;
+  tree = (tree, told, record { public_part = refl; foreign_part = refl });
+  out = sym (append-nil report.out);
+  err = sym (append-nil report.err);
+}
+
+outcome_damaged : (roots : Roots) (words : List Word) (tree : Tree) (why : Refusal) → standing_intent roots tree ≡ Some why
+    → outcome_of roots words tree ≡ refuse_if (Some why) (public_tree roots tree) (foreign_tree roots tree)
+outcome_damaged roots words tree why is = ap (by_intent roots words tree) is
+
+outcome_undamaged : (roots : Roots) (words : List Word) (tree : Tree) → standing_intent roots tree ≡ None
+    → outcome_of roots words tree ≡ machine roots words (public_tree roots tree) (foreign_tree roots tree)
+outcome_undamaged roots words tree is = ap (by_intent roots words tree) is
+
+-- with an undamaged tree nothing stands in the place of a journal
+intent_absent : (roots : Roots) (tree : Tree) → standing_intent roots tree ≡ None → is_some (node_at tree (intent_path roots)) ≡ true → ⊥
+intent_absent roots tree none stands =
+    let found = ap (λ b. cond b (Some (refusal.Damaged (intent_path roots))) None) stands in
+    let impossible : Some (refusal.Damaged (intent_path roots)) ≡ None = sym found ∙ none in cc
+
+-- something stands there
+pub serves_damaged : (roots : Roots) (words : List Word) (old mid : State) (report : Report) (stop : Stop) → Decides (standing_intent roots) {T = Unit {0}} old mid (Err stop)
+    → Serves roots words old mid report report (Err stop)
+serves_damaged roots words old mid report (Refused why) d = record {
+  answers = λ tree told.
+    let P : Outcome → Type 0 = λ outcome. CameAbout roots (public_tree roots tree) outcome (Some why) mid.tree report report in
+    subst P (sym (outcome_damaged roots words tree why (d.agrees tree told))) (came_at_once roots why tree mid.tree report (d.tree ∙ told));
+  damaged = λ tree told stands. d.tree;
+  same_roots = d.roots;
+  cause = d.cause;
+}
+serves_damaged roots words old mid report Fault d = record { answers = λ tree told. tt; damaged = λ tree told stands. d.tree; same_roots = d.roots; cause = d.cause }
+serves_damaged roots words old mid report NoMemory d = record { answers = λ tree told. tt; damaged = λ tree told stands. d.tree; same_roots = d.roots; cause = d.cause }
+
+-- the words are refused
+pub serves_unread : (roots : Roots) (words : List Word) (old mid : State) (report : Report) (stop : Stop) → Decides (standing_intent roots) {T = Unit {0}} old mid (Ok tt)
+    → IsRead {T = Command} (Err stop) (reading words) → Serves roots words old mid report report (Err stop)
+serves_unread roots words old mid report (Refused why) d read = record {
+  answers = λ tree told.
+    let P : Outcome → Type 0 = λ outcome. CameAbout roots (public_tree roots tree) outcome (Some why) mid.tree report report in
+    let is = outcome_undamaged roots words tree (d.agrees tree told) ∙ ap (λ r. perform_read roots r (public_tree roots tree) (foreign_tree roots tree)) read in
+    subst P (sym is) (came_at_once roots why tree mid.tree report (d.tree ∙ told));
+  damaged = λ tree told stands. absurd (intent_absent roots tree (d.agrees tree told) stands);
+  same_roots = d.roots;
+  cause = cause_other {T = Unit {0}} {U = Unit {0}} old mid (Ok tt) (Err (Refused why)) d.cause (λ failed. let impossible : Err (Refused why) ≡ Err Fault = failed in cc);
+}
+serves_unread roots words old mid report Fault d read = absurd read
+serves_unread roots words old mid report NoMemory d read = record {
+  answers = λ tree told. tt;
+  damaged = λ tree told stands. absurd (intent_absent roots tree (d.agrees tree told) stands);
+  same_roots = d.roots;
+  cause = cause_other {T = Unit {0}} {U = Unit {0}} old mid (Ok tt) (Err NoMemory) d.cause (λ failed. let impossible : Err NoMemory ≡ Err Fault = failed in cc);
+}
+
+-- the words are done
+pub serves_done : (roots : Roots) (words : List Word) (it : Command) (old mid new : State) (before after : Report) (result : Result (Unit {0}) Stop)
+    → Decides (standing_intent roots) {T = Unit {0}} old mid (Ok tt) → reading words ≡ Ok it → Does roots (perform roots it) mid new before after result
+    → Serves roots words old new before after result
+serves_done roots words it old mid new before after result d read e = record {
+  answers = λ tree told.
+    let P : Outcome → Type 0 = λ outcome. Answers roots (public_tree roots tree) outcome result new.tree before after in
+    let is = outcome_undamaged roots words tree (d.agrees tree told) ∙ ap (λ r. perform_read roots r (public_tree roots tree) (foreign_tree roots tree)) read in
+    subst P (sym is) (e.answers tree (d.tree ∙ told));
+  damaged = λ tree told stands. absurd (intent_absent roots tree (d.agrees tree told) stands);
+  same_roots = e.same_roots ∙ d.roots;
+  cause = cause_then Fault old mid new (Ok tt) result d.cause e.cause;
+}
+
+-- words that are read have no bad name
+checked_good : (it : Command) (name : Option Word) (other : Command) → checked it name ≡ Ok other → (it ≡ other) × (name ≡ None)
+checked_good it None other e = let same : Ok it ≡ Ok other = e in (cc, refl)
+checked_good it (Some n) other e = let impossible : Err (refusal.BadName n) ≡ Ok other = e in (cc, cc)
+
+pub read_good : (words : List Word) (it : Command) → reading words ≡ Ok it → bad_name it ≡ None
+unfolding reading
+read_good words it e = by_case (command_of words) refl
+  where
+    by_case : (found : Option Command) → command_of words ≡ found → bad_name it ≡ None
+    by_case None is = let impossible : Err (refusal.Usage (known_words words + 1)) ≡ Ok it = sym (ap (read_as words) is) ∙ e in cc
+    by_case (Some c) is =
+        let both = checked_good c (bad_name c) it (sym (ap (read_as words) is) ∙ e) in
+        ap bad_name (sym both.0) ∙ both.1
