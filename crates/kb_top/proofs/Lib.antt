@@ -2,3 +2,4 @@ pub mod AddLaws
 pub mod DoesAdd
 pub mod PlaceLaws
 pub mod ServeLaws
+pub mod TellLaws

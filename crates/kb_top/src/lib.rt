@@ -2,5 +2,9 @@
 #![tactic(auto)]
 
 mod add;
+mod end;
 mod serve;
+mod tell;
 mod words;
+
+pub use end::End;

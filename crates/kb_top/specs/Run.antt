@@ -1,0 +1,110 @@
+-- What the top call does to the world and to its two sinks. This project's own.
+use Rattle.std.specs.Prelude.{◌≡◌, ◌⊎◌, ℕ, ◌≤◌, List, ◌++◌, take, Option, Some, None, Bool, true, is_some, IsTrue}
+use Rattle.std.specs.Option.{ForSome}
+use Rattle.kb_world.specs.Tree.{Tree, node_at}
+use Rattle.kb_world.specs.Public.{public_tree, intent_path}
+use Rattle.kb_world.specs.State.{State, Rose}
+use Rattle.kb_world.specs.SinkState.{SinkState, grown}
+use Rattle.kb_world.specs.Refusal.{message_of, number_of, fault_line, no_memory_line}
+use Rattle.kb_world.specs.Outcome.{Outcome, last_of}
+use Rattle.kb_world.specs.Does.{IsTreeOf}
+use Rattle.kb_world.specs.declared.roots.Roots.{Roots}
+use Rattle.kb_world.specs.declared.refusal.Refusal.{Refusal}
+use Rattle.kb_top.specs.declared.end.End.{End}
+use Rattle.kb_top.specs.declared.end.End.TheVariants as end
+use Rattle.kb_top.specs.Words.{Word}
+use Rattle.kb_top.specs.Machine.{outcome_of}
+
+-- the exit status
+abbrev pub code_of : End → ℕ
+code_of end.Done = 0
+code_of (end.Refused why) = number_of why
+code_of end.Fault = 70
+code_of end.NoMemory = 71
+code_of end.SinkFault = 74
+code_of end.BadRoot = 72
+code_of end.BadBoot = 73
+
+-- the world and the two sinks
+pub record Outside : Type 0 where
+  pub world : State
+  pub out : SinkState
+  pub err : SinkState
+
+-- the text for standard error: where the command is refused it ends with the refusal's line
+abbrev pub with_line : List ℕ → Option Refusal → List ℕ
+with_line text None = text
+with_line text (Some why) = text ++ message_of why
+
+abbrev pub err_text : Outcome → List ℕ
+err_text outcome = with_line outcome.err outcome.end
+
+-- a front of the text was written, and nothing else
+abbrev pub WroteFront : List ℕ → SinkState → SinkState → Type 0
+WroteFront text old new = (n : ℕ) × (new.written ≡ grown (take n text) old.written)
+
+abbrev pub Wrote : List ℕ → SinkState → SinkState → Type 0
+Wrote text old new = new.written ≡ grown text old.written
+
+abbrev pub WroteNothing : SinkState → SinkState → Type 0
+WroteNothing old new = new.written ≡ old.written
+
+-- the tree that is told now has the last store of the outcome
+abbrev pub IsDone : Roots → Tree → Outcome → Option Tree → Type 0
+IsDone roots store outcome now = (tree : Tree) × (now ≡ Some tree) × IsTreeOf roots (last_of store outcome.after) outcome.foreign tree
+
+-- The command's answer: the machine's end, its store, and exactly its texts.
+pub record IsAnswered (roots : Roots) (store : Tree) (outcome : Outcome) (due : Option Refusal) (old new : Outside) : Type 0 where
+  pub ended : outcome.end ≡ due
+  pub tree : IsDone roots store outcome new.world.tree
+  pub out : Wrote outcome.out old.out new.out
+  pub err : Wrote (err_text outcome) old.err new.err
+
+-- A sink failed: the store is the machine's, and of its texts a front was written, the one for standard output whole
+-- before the other was begun.
+pub record IsCutShort (roots : Roots) (store : Tree) (outcome : Outcome) (old new : Outside) : Type 0 where
+  pub tree : IsDone roots store outcome new.world.tree
+  pub out : WroteFront outcome.out old.out new.out
+  pub err : WroteFront (err_text outcome) old.err new.err
+  pub in_order : Wrote outcome.out old.out new.out ⊎ WroteNothing old.err new.err
+
+-- Memory ran out: at most the text for standard output was written, whole, and a front of the fixed line.
+pub record IsGivenUp (outcome : Outcome) (old new : Outside) : Type 0 where
+  pub out : WroteNothing old.out new.out ⊎ Wrote outcome.out old.out new.out
+  pub err : WroteFront no_memory_line old.err new.err
+
+abbrev pub EndsAs : Roots → Tree → Outcome → Outside → Outside → End → Type 0
+EndsAs roots store outcome old new end.Done = IsAnswered roots store outcome None old new
+EndsAs roots store outcome old new (end.Refused why) = IsAnswered roots store outcome (Some why) old new
+EndsAs roots store outcome old new end.SinkFault = IsCutShort roots store outcome old new
+EndsAs roots store outcome old new end.NoMemory = IsGivenUp outcome old new
+EndsAs roots store outcome old new end.Fault = Unit {0}
+EndsAs roots store outcome old new end.BadRoot = ⊥
+EndsAs roots store outcome old new end.BadBoot = ⊥
+
+-- The outside failed: the count says so, nothing went to standard output, and a front of the fixed line to the other.
+pub record IsFaulted (old new : Outside) : Type 0 where
+  pub rose : Rose old.world.faults new.world.faults
+  pub out : WroteNothing old.out new.out
+  pub err : WroteFront fault_line old.err new.err
+
+-- an answer, or want of memory
+abbrev pub IsAnswerOrWant : End → Type 0
+IsAnswerOrWant end.Done = Unit {0}
+IsAnswerOrWant (end.Refused why) = Unit {0}
+IsAnswerOrWant end.NoMemory = Unit {0}
+IsAnswerOrWant end.Fault = ⊥
+IsAnswerOrWant end.SinkFault = ⊥
+IsAnswerOrWant end.BadRoot = ⊥
+IsAnswerOrWant end.BadBoot = ⊥
+
+pub record AreSteady (outside : Outside) : Type 0 where
+  pub world : IsTrue outside.world.steady
+  pub out : IsTrue outside.out.steady
+  pub err : IsTrue outside.err.steady
+
+-- no count of faults falls
+pub record CountsStay (old new : Outside) : Type 0 where
+  pub world : old.world.faults ≤ new.world.faults
+  pub out : old.out.faults ≤ new.out.faults
+  pub err : old.err.faults ≤ new.err.faults
