@@ -108,3 +108,22 @@ pub record CountsStay (old new : Outside) : Type 0 where
   pub world : old.world.faults ≤ new.world.faults
   pub out : old.out.faults ≤ new.out.faults
   pub err : old.err.faults ≤ new.err.faults
+
+-- The clause of the top call.
+pub record Runs (roots : Roots) (words : List Word) (old new : Outside) (result : End) : Type 0 where
+  -- over a told tree it equals the command machine
+  pub ends : ForSome old.world.tree (λ tree. EndsAs roots (public_tree roots tree) (outcome_of roots words tree) old new result)
+  -- a refusal leaves the public tree as it was
+  pub refused : (why : Refusal) → result ≡ end.Refused why → ForSome old.world.tree (λ tree. ForSome new.world.tree (λ now. public_tree roots now ≡ public_tree roots tree))
+  -- where anything stands in the place of a journal, nothing is changed
+  pub damaged : ForSome old.world.tree (λ tree. is_some (node_at tree (intent_path roots)) ≡ true → new.world.tree ≡ old.world.tree)
+  -- it ends with a fault only where the outside's count rose, and says only the fixed line then
+  pub fault : result ≡ end.Fault → IsFaulted old new
+  -- and with a sink's fault only where a sink's count rose
+  pub sink_fault : result ≡ end.SinkFault → Rose old.out.faults new.out.faults ⊎ Rose old.err.faults new.err.faults
+  -- a world and sinks that are steady give an answer or want of memory
+  pub complete : AreSteady old → IsAnswerOrWant result × AreSteady new
+  -- the setting is none of its concern
+  pub no_setting : (result ≡ end.BadRoot → ⊥) × (result ≡ end.BadBoot → ⊥)
+  pub counts : CountsStay old new
+  pub same_roots : new.world.roots ≡ old.world.roots

@@ -3,8 +3,10 @@
 
 mod add;
 mod end;
+mod call;
 mod serve;
 mod tell;
 mod words;
 
 pub use end::End;
+pub use call::{Setting, run, start};

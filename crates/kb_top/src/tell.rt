@@ -19,7 +19,7 @@ fn write_some<S: Sink>(sink: &mut S, text: &[u8]) -> Result<(), SinkError>
 }
 
 // Writes a fixed line, and doesn't mind whether the sink takes it: the command's end is known already.
-fn write_last<S: Sink>(sink: &mut S, line: &str)
+pub fn write_last<S: Sink>(sink: &mut S, line: &str)
     ensures { SaysFront line.now (S.state sink.old) (S.state sink.new) }
 {
     let _ = sink.write(line.as_bytes());
