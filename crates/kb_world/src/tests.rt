@@ -1,8 +1,50 @@
-// The rules on names and paths at their edges, and each public call once with ample memory.
+// The rules on names and paths at their edges, and the other public calls once with ample memory.
 use crate::*;
 use std::alloc::{AllocError, Global};
 use std::cmp::Ordering;
 use std::test::Fail;
+
+// In this order: name, word, version, kernel, architecture, boot word.
+fn rules(text: &str) -> [bool; 6] {
+    [
+        is_name(text),
+        is_word(text),
+        is_version(text),
+        is_kernel(text),
+        is_arch(text),
+        is_boot_word(text),
+    ]
+}
+
+#[test]
+fn names_keep_their_rules(rt: HostRuntime) {
+    for (text, want) in [
+        ("hello", [true, true, true, true, true, true]),
+        ("8812au", [true, true, true, true, true, true]),
+        ("x86_64", [true, true, true, true, true, true]),
+        ("kernel", [true, true, true, true, true, true]),
+        ("6.1.0-18+b1", [true, true, true, true, false, true]),
+        ("a._+-~^:", [true, true, true, true, false, false]),
+        ("a~", [true, true, true, true, false, false]),
+        ("original_module", [true, true, false, true, true, true]),
+        ("kernel-6.1.0", [true, true, false, true, false, true]),
+        ("build", [true, true, true, false, true, true]),
+        ("source", [true, true, true, false, true, true]),
+        ("_a", [true, false, false, false, true, false]),
+        ("-a", [true, false, false, false, false, false]),
+        (".a", [true, false, false, false, false, false]),
+        ("a b", [true, false, false, false, false, false]),
+        ("naïve", [true, false, false, false, false, false]),
+        ("...", [true, false, false, false, false, false]),
+        ("", [false, false, false, false, false, false]),
+        (".", [false, false, false, false, false, false]),
+        ("..", [false, false, false, false, false, false]),
+        ("a/b", [false, false, false, false, false, false]),
+        ("a\0", [false, false, false, false, false, false]),
+    ] {
+        assert_eq!(rt; rules(text), want, "{text:?}");
+    }
+}
 
 fn letters(alloc: Global, count: usize) -> Result<String, AllocError> {
     let mut text = String::new(alloc);
@@ -13,97 +55,52 @@ fn letters(alloc: Global, count: usize) -> Result<String, AllocError> {
 }
 
 #[test]
-fn names_of_entries(rt: HostRuntime) -> Result<(), Fail> {
-    for name in ["a", ".a", "...", "a b", "..a", "naïve", "-x", "\n"] {
-        assert!(rt; is_name(name), "{name:?}");
-    }
-    for name in ["", ".", "..", "/", "a/b", "a/", "a\0"] {
-        assert!(rt; !is_name(name), "{name:?}");
-    }
-    assert!(rt; is_name(letters(rt.alloc(), 255)?.as_str()));
-    assert!(rt; !is_name(letters(rt.alloc(), 256)?.as_str()));
-    Ok(())
-}
-
-#[test]
-fn names_of_packages(rt: HostRuntime) -> Result<(), Fail> {
-    for word in ["hello", "8812au", "a._+-~^:", "build", "kernel-1", "Z9"] {
-        assert!(rt; is_word(word), "{word:?}");
-    }
-    for word in ["", "-a", ".a", "_a", "~1", "a/b", "a b", "a@b", "ä"] {
-        assert!(rt; !is_word(word), "{word:?}");
-    }
-    assert!(rt; is_word(letters(rt.alloc(), 120)?.as_str()));
-    assert!(rt; !is_word(letters(rt.alloc(), 121)?.as_str()));
-    Ok(())
-}
-
-#[test]
-fn names_of_versions(rt: HostRuntime) {
-    for version in [
-        "1.0",
-        "2:1.0~rc1",
-        "kernel",
-        "kernels-1",
-        "original_modules",
+fn names_have_a_longest(rt: HostRuntime) -> Result<(), Fail> {
+    for (count, want) in [
+        (32, [true, true, true, true, true, true]),
+        (33, [true, true, true, true, false, true]),
+        (120, [true, true, true, true, false, true]),
+        (121, [true, false, false, false, false, false]),
+        (255, [true, false, false, false, false, false]),
+        (256, [false, false, false, false, false, false]),
     ] {
-        assert!(rt; is_version(version), "{version:?}");
+        let text = letters(rt.alloc(), count)?;
+        assert_eq!(rt; rules(text.as_str()), want, "{count}");
     }
-    for version in [
-        "",
-        "original_module",
-        "kernel-",
-        "kernel-6.1.0-x86_64",
-        "-1",
+    Ok(())
+}
+
+fn count_of_names(alloc: Global, text: &str) -> Result<usize, PathError> {
+    Ok(Path::parse(alloc, text)?.names().len())
+}
+
+#[test]
+fn parses_what_is_a_path(rt: HostRuntime) {
+    for (text, want) in [
+        ("/", Ok(0)),
+        ("/a", Ok(1)),
+        ("/a/b", Ok(2)),
+        ("/.a/ /...", Ok(3)),
+        ("", Err(PathError::NotAPath)),
+        ("a", Err(PathError::NotAPath)),
+        ("a/b", Err(PathError::NotAPath)),
+        ("//", Err(PathError::NotAPath)),
+        ("//a", Err(PathError::NotAPath)),
+        ("/a/", Err(PathError::NotAPath)),
+        ("/a//b", Err(PathError::NotAPath)),
+        ("/a/..", Err(PathError::NotAPath)),
+        ("/./a", Err(PathError::NotAPath)),
+        ("/a\0", Err(PathError::NotAPath)),
     ] {
-        assert!(rt; !is_version(version), "{version:?}");
+        assert_eq!(rt; count_of_names(rt.alloc(), text), want, "{text:?}");
     }
 }
 
 #[test]
-fn names_of_kernels_and_arches(rt: HostRuntime) -> Result<(), Fail> {
-    for kernel in ["6.1.0-18-amd64", "6.9.0+", "builds", "kernel-1"] {
-        assert!(rt; is_kernel(kernel), "{kernel:?}");
-    }
-    for kernel in ["", "build", "source", "-6", "6/1"] {
-        assert!(rt; !is_kernel(kernel), "{kernel:?}");
-    }
-    for arch in ["x86_64", "_", "aarch64", "9"] {
-        assert!(rt; is_arch(arch), "{arch:?}");
-    }
-    for arch in ["", "x86-64", "x86.64", "x/y"] {
-        assert!(rt; !is_arch(arch), "{arch:?}");
-    }
-    assert!(rt; is_arch(letters(rt.alloc(), 32)?.as_str()));
-    assert!(rt; !is_arch(letters(rt.alloc(), 33)?.as_str()));
-    Ok(())
-}
-
-#[test]
-fn names_on_the_boot_partition(rt: HostRuntime) -> Result<(), Fail> {
-    for word in ["debian", "0123456789abcdef", "6.1.0-18-amd64", "a+-_."] {
-        assert!(rt; is_boot_word(word), "{word:?}");
-    }
-    for word in ["", "+3", "-a", "_a", ".a", "a~b", "a^b", "a:b", "a/b"] {
-        assert!(rt; !is_boot_word(word), "{word:?}");
-    }
-    assert!(rt; is_boot_word(letters(rt.alloc(), 120)?.as_str()));
-    assert!(rt; !is_boot_word(letters(rt.alloc(), 121)?.as_str()));
-    Ok(())
-}
-
-#[test]
-fn parses_what_is_a_path(rt: HostRuntime) -> Result<(), Fail> {
-    for (text, names) in [("/", 0), ("/a", 1), ("/a/b", 2), ("/.a/ /...", 3)] {
+fn prints_what_it_parsed(rt: HostRuntime) -> Result<(), Fail> {
+    for text in ["/", "/a", "/usr/lib/modules"] {
         let path = Path::parse(rt.alloc(), text)?;
-        assert_eq!(rt; path.names().len(), names, "{text:?}");
         assert_eq!(rt; path.text(rt.alloc())?.as_str(), text);
-    }
-    for text in [
-        "", "a", "//", "/a/", "/a/..", "/./a", "/a//b", "//a", "a/b", "/a\0",
-    ] {
-        let refused = matches!(Path::parse(rt.alloc(), text), Err(PathError::NotAPath));
-        assert!(rt; refused, "{text:?}");
     }
     Ok(())
 }
@@ -111,59 +108,41 @@ fn parses_what_is_a_path(rt: HostRuntime) -> Result<(), Fail> {
 #[test]
 fn paths_have_an_order(rt: HostRuntime) -> Result<(), Fail> {
     let root = Path::root(rt.alloc());
-    let below = Path::parse(rt.alloc(), "/a/c")?;
-    let beside = Path::parse(rt.alloc(), "/a!")?;
-    let child = Path::parse(rt.alloc(), "/a")?.child(rt.alloc(), "c")?;
-    assert!(rt; child == below);
-    assert!(rt; below.is_under(&child) && below.is_under(&root));
-    assert!(rt; !root.is_under(&below) && !beside.is_under(&below));
-    assert!(rt; below.cmp(&beside) == Ordering::Less);
-    assert!(rt; root.partial_cmp(&beside) == Some(Ordering::Less));
+    let child = root.child(rt.alloc(), "a")?;
+    let beside = root.child(rt.alloc(), "a!")?;
+    let below = child.child(rt.alloc(), "c")?;
+    assert!(rt; below.is_under(&below) && below.is_under(&child) && below.is_under(&root));
+    assert!(rt; !child.is_under(&below) && !beside.is_under(&child));
+    assert!(rt; child.cmp(&below) == Ordering::Less && below.cmp(&beside) == Ordering::Less);
     assert!(rt; below.clone()? == below);
     Ok(())
 }
 
 #[test]
 fn roots_stand_below_the_base(rt: HostRuntime) -> Result<(), Fail> {
-    let roots = Roots::under(rt.alloc(), &Path::parse(rt.alloc(), "/srv")?)?;
-    for (root, text) in [
-        (&roots.base, "/srv"),
-        (&roots.dkms, "/srv/var/lib/dkms"),
-        (&roots.src, "/srv/usr/src"),
-        (&roots.modules, "/srv/lib/modules"),
-        (&roots.boot, "/srv/boot"),
-        (&roots.etc, "/srv/etc"),
-        (&roots.lib, "/srv/usr/lib"),
-        (&roots.proc, "/srv/proc"),
-    ] {
-        assert_eq!(rt; root.text(rt.alloc())?.as_str(), text);
-    }
+    let roots = Roots::under(rt.alloc(), &Path::root(rt.alloc()))?;
+    assert_eq!(rt; roots.dkms.text(rt.alloc())?.as_str(), "/var/lib/dkms");
+    assert_eq!(rt; roots.lib.text(rt.alloc())?.as_str(), "/usr/lib");
     Ok(())
 }
 
 #[test]
-fn texts_and_bytes_grow(rt: HostRuntime) -> Result<(), Fail> {
-    let mut text = Text::of(rt.alloc(), "M")?;
+fn texts_grow(rt: HostRuntime) -> Result<(), Fail> {
+    let mut text = Text::from_string(String::from_str(rt.alloc(), "M")?);
     text.push_str("/V")?;
     assert_eq!(rt; text.as_str(), "M/V");
-    assert!(rt; text.clone()? == Text::from_string(String::from_str(rt.alloc(), "M/V")?));
     assert!(rt; text.cmp(&Text::of(rt.alloc(), "M0")?) == Ordering::Less);
-    let mut bytes = Bytes::new(rt.alloc());
-    bytes.push(b"a")?;
-    bytes.push(Bytes::of(rt.alloc(), b"b")?.as_slice())?;
-    assert_eq!(rt; bytes.clone()?.as_slice(), b"ab".as_slice());
-    let mut texts = Texts::new(rt.alloc());
-    texts.push(text)?;
-    assert_eq!(rt; texts.as_slice().len(), 1);
-    let mut spots = SpotList::new(rt.alloc());
-    spots.push(spot(rt.alloc())?)?;
-    assert_eq!(rt; spots.as_slice().len(), 1);
+    assert!(rt; text.clone()? == text);
     Ok(())
 }
 
-fn spot(alloc: Global) -> Result<Spot, AllocError> {
-    Ok(Spot {
-        kernel: Text::of(alloc, "6.1.0")?,
-        arch: Text::of(alloc, "x86_64")?,
-    })
+#[test]
+fn bytes_and_lists_grow(rt: HostRuntime) -> Result<(), Fail> {
+    let mut bytes = Bytes::new(rt.alloc());
+    bytes.push(b"ab")?;
+    assert_eq!(rt; bytes.clone()?.as_slice(), b"ab".as_slice());
+    let mut texts = Texts::new(rt.alloc());
+    texts.push(Text::of(rt.alloc(), "a")?)?;
+    assert_eq!(rt; texts.as_slice().len(), 1);
+    Ok(())
 }

@@ -3,28 +3,6 @@ use super::*;
 use std::process::Abort;
 use std::test::Fail;
 
-fn text(alloc: Global, text: &str) -> Result<Text, AllocError> {
-    Text::of(alloc, text)
-}
-
-fn key(alloc: Global) -> Result<Key, AllocError> {
-    Ok(Key {
-        module: Text::of(alloc, "hello")?,
-        version: Text::of(alloc, "1.0")?,
-    })
-}
-
-fn spot(alloc: Global) -> Result<Spot, AllocError> {
-    Ok(Spot {
-        kernel: Text::of(alloc, "6.1.0")?,
-        arch: Text::of(alloc, "x86_64")?,
-    })
-}
-
-fn path(alloc: Global) -> Result<Path, AllocError> {
-    Path::root(alloc).child(alloc, "a")?.child(alloc, "b")
-}
-
 fn says(
     rt: &impl Abort,
     alloc: Global,
@@ -37,249 +15,135 @@ fn says(
     Ok(())
 }
 
-#[test]
-fn refusals_of_words(rt: HostRuntime) -> Result<(), Fail> {
-    let alloc = rt.alloc();
-    says(
-        &rt,
-        alloc,
-        Refusal::Usage { place: 3 },
-        1,
-        "kmodboot: usage error at word 3\n",
-    )?;
-    says(
-        &rt,
-        alloc,
-        Refusal::BadName {
-            name: text(alloc, "-x")?,
-        },
-        2,
-        "kmodboot: bad name: -x\n",
-    )?;
-    says(
-        &rt,
-        alloc,
-        Refusal::ChildFailed {
-            which: text(alloc, "make")?,
-            code: 2,
-        },
-        21,
-        "kmodboot: make ended with 2\n",
-    )?;
-    says(
-        &rt,
-        alloc,
-        Refusal::NoToken,
-        23,
-        "kmodboot: no entry token\n",
-    )?;
-    says(
-        &rt,
-        alloc,
-        Refusal::Archive {
-            word: text(alloc, "mkrpm")?,
-        },
-        26,
-        "kmodboot: archives are not supported: mkrpm\n",
-    )?;
-    Ok(())
+fn key(alloc: Global) -> Result<Key, AllocError> {
+    Ok(Key {
+        module: Text::of(alloc, "hello")?,
+        version: Text::of(alloc, "1.0")?,
+    })
+}
+
+fn of_a_package(number: u8, key: Key) -> Refusal {
+    match number {
+        3 => Refusal::NotAdded { key },
+        4 => Refusal::AlreadyAdded { key },
+        10 => Refusal::ConfMismatch { key },
+        13 => Refusal::AlreadyBuilt { key },
+        14 => Refusal::NotBuilt { key },
+        15 => Refusal::AlreadyInstalled { key },
+        _ => Refusal::NotInstalled { key },
+    }
 }
 
 #[test]
 fn refusals_of_packages(rt: HostRuntime) -> Result<(), Fail> {
-    let alloc = rt.alloc();
-    says(
-        &rt,
-        alloc,
-        Refusal::NotAdded { key: key(alloc)? },
-        3,
-        "kmodboot: hello/1.0: not added\n",
-    )?;
-    says(
-        &rt,
-        alloc,
-        Refusal::AlreadyAdded { key: key(alloc)? },
-        4,
-        "kmodboot: hello/1.0: already added\n",
-    )?;
-    says(
-        &rt,
-        alloc,
-        Refusal::AlreadyBuilt { key: key(alloc)? },
-        13,
-        "kmodboot: hello/1.0: already built\n",
-    )?;
-    says(
-        &rt,
-        alloc,
-        Refusal::NotBuilt { key: key(alloc)? },
-        14,
-        "kmodboot: hello/1.0: not built\n",
-    )?;
-    says(
-        &rt,
-        alloc,
-        Refusal::AlreadyInstalled { key: key(alloc)? },
-        15,
-        "kmodboot: hello/1.0: already installed\n",
-    )?;
-    says(
-        &rt,
-        alloc,
-        Refusal::NotInstalled { key: key(alloc)? },
-        16,
-        "kmodboot: hello/1.0: not installed\n",
-    )?;
-    says(
-        &rt,
-        alloc,
-        Refusal::Excluded {
-            key: key(alloc)?,
-            spot: spot(alloc)?,
-        },
-        11,
-        "kmodboot: hello/1.0: not for 6.1.0, x86_64\n",
-    )?;
-    says(
-        &rt,
-        alloc,
-        Refusal::NoModule {
-            name: text(alloc, "hello")?,
-        },
-        17,
-        "kmodboot: the build left no hello.ko\n",
-    )?;
+    for (number, line) in [
+        (3, "kmodboot: hello/1.0: not added\n"),
+        (4, "kmodboot: hello/1.0: already added\n"),
+        (10, "kmodboot: dkms.conf is of hello/1.0\n"),
+        (13, "kmodboot: hello/1.0: already built\n"),
+        (14, "kmodboot: hello/1.0: not built\n"),
+        (15, "kmodboot: hello/1.0: already installed\n"),
+        (16, "kmodboot: hello/1.0: not installed\n"),
+    ] {
+        says(
+            &rt,
+            rt.alloc(),
+            of_a_package(number, key(rt.alloc())?),
+            number,
+            line,
+        )?;
+    }
     Ok(())
 }
 
-#[test]
-fn refusals_of_confs(rt: HostRuntime) -> Result<(), Fail> {
-    let alloc = rt.alloc();
-    says(
-        &rt,
-        alloc,
-        Refusal::ConfLine { line: 12 },
-        7,
-        "kmodboot: dkms.conf line 12\n",
-    )?;
-    says(
-        &rt,
-        alloc,
-        Refusal::ConfMissing {
-            name: text(alloc, "PACKAGE_NAME")?,
-        },
-        8,
-        "kmodboot: dkms.conf lacks PACKAGE_NAME\n",
-    )?;
-    says(
-        &rt,
-        alloc,
-        Refusal::ConfValue {
-            name: text(alloc, "MAKE[0]")?,
-        },
-        9,
-        "kmodboot: dkms.conf has a bad MAKE[0]\n",
-    )?;
-    says(
-        &rt,
-        alloc,
-        Refusal::ConfMismatch { key: key(alloc)? },
-        10,
-        "kmodboot: dkms.conf is of hello/1.0\n",
-    )?;
-    Ok(())
+fn of_a_place(number: u8, path: Path) -> Refusal {
+    match number {
+        5 => Refusal::NoSource { path },
+        6 => Refusal::SourceThere { path },
+        12 => Refusal::NoKernel { path },
+        19 => Refusal::Changed { path },
+        20 => Refusal::Damaged { path },
+        22 => Refusal::NoImage { path },
+        24 => Refusal::ImageInside { path },
+        25 => Refusal::TooLarge { path },
+        27 => Refusal::NoRoot { path },
+        _ => Refusal::TooMany { path },
+    }
 }
 
 #[test]
 fn refusals_of_places(rt: HostRuntime) -> Result<(), Fail> {
-    let alloc = rt.alloc();
-    says(
-        &rt,
-        alloc,
-        Refusal::NoSource { path: path(alloc)? },
-        5,
-        "kmodboot: no source: /a/b\n",
-    )?;
-    says(
-        &rt,
-        alloc,
-        Refusal::SourceThere { path: path(alloc)? },
-        6,
-        "kmodboot: source exists: /a/b\n",
-    )?;
-    says(
-        &rt,
-        alloc,
-        Refusal::NoKernel { path: path(alloc)? },
-        12,
-        "kmodboot: no kernel: /a/b\n",
-    )?;
-    says(
-        &rt,
-        alloc,
-        Refusal::NoImage { path: path(alloc)? },
-        22,
-        "kmodboot: no image: /a/b\n",
-    )?;
-    says(
-        &rt,
-        alloc,
-        Refusal::NoRoot { path: path(alloc)? },
-        27,
-        "kmodboot: no directory: /a/b\n",
-    )?;
+    for (number, line) in [
+        (5, "kmodboot: no source: /a\n"),
+        (6, "kmodboot: source exists: /a\n"),
+        (12, "kmodboot: no kernel: /a\n"),
+        (19, "kmodboot: /a: changed\n"),
+        (20, "kmodboot: /a: damaged\n"),
+        (22, "kmodboot: no image: /a\n"),
+        (24, "kmodboot: /a: inside the entry directory\n"),
+        (25, "kmodboot: /a: too large\n"),
+        (27, "kmodboot: no directory: /a\n"),
+        (28, "kmodboot: /a: too many entries\n"),
+    ] {
+        let path = Path::root(rt.alloc()).child(rt.alloc(), "a")?;
+        says(&rt, rt.alloc(), of_a_place(number, path), number, line)?;
+    }
+    Ok(())
+}
+
+fn of_a_name(number: u8, name: Text) -> Refusal {
+    match number {
+        1 => Refusal::Usage { place: 3 },
+        2 => Refusal::BadName { name },
+        7 => Refusal::ConfLine { line: 12 },
+        8 => Refusal::ConfMissing { name },
+        9 => Refusal::ConfValue { name },
+        17 => Refusal::NoModule { name },
+        21 => Refusal::ChildFailed {
+            which: name,
+            code: 2,
+        },
+        23 => Refusal::NoToken,
+        _ => Refusal::Archive { word: name },
+    }
+}
+
+#[test]
+fn refusals_of_names(rt: HostRuntime) -> Result<(), Fail> {
+    for (number, line) in [
+        (1, "kmodboot: usage error at word 3\n"),
+        (2, "kmodboot: bad name: make\n"),
+        (7, "kmodboot: dkms.conf line 12\n"),
+        (8, "kmodboot: dkms.conf lacks make\n"),
+        (9, "kmodboot: dkms.conf has a bad make\n"),
+        (17, "kmodboot: the build left no make.ko\n"),
+        (21, "kmodboot: make ended with 2\n"),
+        (23, "kmodboot: no entry token\n"),
+        (26, "kmodboot: archives are not supported: make\n"),
+    ] {
+        let name = Text::of(rt.alloc(), "make")?;
+        says(&rt, rt.alloc(), of_a_name(number, name), number, line)?;
+    }
     Ok(())
 }
 
 #[test]
-fn refusals_of_what_stands(rt: HostRuntime) -> Result<(), Fail> {
-    let alloc = rt.alloc();
-    says(
-        &rt,
-        alloc,
-        Refusal::Claimed {
-            path: path(alloc)?,
-            module: text(alloc, "other")?,
-        },
-        18,
-        "kmodboot: /a/b: belongs to other\n",
-    )?;
-    says(
-        &rt,
-        alloc,
-        Refusal::Changed { path: path(alloc)? },
-        19,
-        "kmodboot: /a/b: changed\n",
-    )?;
-    says(
-        &rt,
-        alloc,
-        Refusal::Damaged { path: path(alloc)? },
-        20,
-        "kmodboot: /a/b: damaged\n",
-    )?;
-    says(
-        &rt,
-        alloc,
-        Refusal::ImageInside { path: path(alloc)? },
-        24,
-        "kmodboot: /a/b: inside the entry directory\n",
-    )?;
-    says(
-        &rt,
-        alloc,
-        Refusal::TooLarge { path: path(alloc)? },
-        25,
-        "kmodboot: /a/b: too large\n",
-    )?;
-    says(
-        &rt,
-        alloc,
-        Refusal::TooMany { path: path(alloc)? },
-        28,
-        "kmodboot: /a/b: too many entries\n",
-    )?;
-    Ok(())
+fn refuses_an_excluded_spot(rt: HostRuntime) -> Result<(), Fail> {
+    let spot = Spot {
+        kernel: Text::of(rt.alloc(), "6.1.0")?,
+        arch: Text::of(rt.alloc(), "x86_64")?,
+    };
+    let key = key(rt.alloc())?;
+    let line = "kmodboot: hello/1.0: not for 6.1.0, x86_64\n";
+    says(&rt, rt.alloc(), Refusal::Excluded { key, spot }, 11, line)
+}
+
+#[test]
+fn refuses_a_claimed_place(rt: HostRuntime) -> Result<(), Fail> {
+    let path = Path::root(rt.alloc()).child(rt.alloc(), "a.ko")?;
+    let module = Text::of(rt.alloc(), "other")?;
+    let line = "kmodboot: /a.ko: belongs to other\n";
+    says(&rt, rt.alloc(), Refusal::Claimed { path, module }, 18, line)
 }
 
 #[test]
