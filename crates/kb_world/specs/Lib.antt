@@ -1,9 +1,15 @@
+pub mod Does
 pub mod Job
 pub mod Names
+pub mod Outcome
 pub mod Path
+pub mod Public
 pub mod Refusal
 pub mod Roots
 pub mod SinkState
 pub mod State
+pub mod Steps
 pub mod Stop
+pub mod Store
 pub mod Tree
+pub mod TreeLaws

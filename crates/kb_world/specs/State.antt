@@ -18,18 +18,18 @@ pub record State : Type 0 where
 abbrev pub Rose : ℕ → ℕ → Type 0
 Rose before now = min (before + 1) (2 ^ 64 - 1) ≤ now
 
--- A call fails only by a fault, which a steady world has none of.
-pub record HasCause {T : Type 0} (old new : State) (result : Result T WorldError) : Type 0 where
+-- A call answers this error only by a fault, which a steady world has none of.
+pub record HasCause {E T : Type 0} (error : E) (old new : State) (result : Result T E) : Type 0 where
   pub later : old.faults ≤ new.faults
-  pub failed : IsErrOf result Failed → Rose old.faults new.faults
+  pub rose : IsErrOf result error → Rose old.faults new.faults
   pub steady : IsTrue old.steady → IsTrue new.steady
-  pub never : IsTrue old.steady → IsErrOf result Failed → ⊥
+  pub never : IsTrue old.steady → IsErrOf result error → ⊥
 
 -- a call that only looks
 pub record Looks {T : Type 0} (old new : State) (result : Result T WorldError) : Type 0 where
   pub tree : new.tree ≡ old.tree
   pub roots : new.roots ≡ old.roots
-  pub cause : HasCause old new result
+  pub cause : HasCause Failed old new result
 
 -- A call that changes the tree so: at Ok it is done, at a failure it is done or not, and where memory ran out it isn't.
 pub record Changes (change : Tree → Tree) {T : Type 0} (old new : State) (result : Result T WorldError) : Type 0 where
@@ -37,4 +37,4 @@ pub record Changes (change : Tree → Tree) {T : Type 0} (old new : State) (resu
   pub failed : IsErrOf result Failed → (new.tree ≡ old.tree) ⊎ (new.tree ≡ option_map change old.tree)
   pub no_memory : IsErrOf result NoMemory → new.tree ≡ old.tree
   pub roots : new.roots ≡ old.roots
-  pub cause : HasCause old new result
+  pub cause : HasCause Failed old new result

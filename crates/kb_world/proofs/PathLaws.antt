@@ -1,0 +1,78 @@
+-- Which paths lie below which.
+use Rattle.std.proofs.Common.{◌≡◌, ◌≢◌, ℕ, ◌+◌, Bool, true, false, ◌&&◌, ◌||◌, not, List, [], ◌∷◌, ◌++◌, length, take, drop, nat_eq, refl, sym, ap, ◌∙◌, subst, inl, inr, ◌⊎◌, arith, length-append, append_assoc}
+use Rattle.std.specs.Prelude.{bytes_eq}
+use Rattle.std.specs.Cmp.{first_so, second_so}
+use Rattle.std.specs.Cmp.Derive.{both_true}
+use Rattle.std.specs.Cmp.Lexicographic.{bytes_decides}
+use Rattle.kb_world.specs.Path.{Path, is_under, are_apart, child}
+
+same_name : (a b : List ℕ) → bytes_eq a b ≡ true → a ≡ b
+same_name a b = (bytes_decides a b).0
+
+own_name : (a : List ℕ) → bytes_eq a a ≡ true
+own_name a = (bytes_decides a a).1 refl
+
+-- every path is under the root
+pub under-root : (p : Path) → is_under p [] ≡ true
+under-root p = refl
+
+-- what is below a directory is under it
+pub under-append : (a p : Path) → is_under (a ++ p) a ≡ true
+under-append [] p = refl
+under-append (n ∷ a) p = both_true (own_name n) (under-append a p)
+
+pub under-self : (a : Path) → is_under a a ≡ true
+under-self [] = refl
+under-self (n ∷ a) = both_true (own_name n) (under-self a)
+
+-- below one directory, it is the rest that counts
+pub under-beside : (a p q : Path) → is_under (a ++ p) (a ++ q) ≡ is_under p q
+under-beside [] p q = refl
+under-beside (n ∷ a) p q = ap (λ b. b && is_under (a ++ p) (a ++ q)) (own_name n) ∙ under-beside a p q
+
+-- what is under a directory further down is under the one above
+pub under-above : (p a b : Path) → is_under p (a ++ b) ≡ true → is_under p a ≡ true
+under-above p [] b h = refl
+under-above [] (n ∷ a) b h = let q : true ≡ false = sym h in cc
+under-above (m ∷ p) (n ∷ a) b h = both_true (first_so (bytes_eq n m) _ h) (under-above p a b (second_so (bytes_eq n m) _ h))
+
+-- of two directories above one path, one is under the other
+pub comparable : (p a b : Path) → is_under p a ≡ true → is_under p b ≡ true → (is_under a b ≡ true) ⊎ (is_under b a ≡ true)
+comparable p a [] h k = inl refl
+comparable p [] (y ∷ b) h k = inr refl
+comparable [] (x ∷ a) (y ∷ b) h k = let q : true ≡ false = sym h in cc
+comparable (n ∷ p) (x ∷ a) (y ∷ b) h k =
+    let x_is : x ≡ n = same_name x n (first_so (bytes_eq x n) _ h) in
+    let y_is : y ≡ n = same_name y n (first_so (bytes_eq y n) _ k) in
+    let same : x ≡ y = x_is ∙ sym y_is in
+    elim (comparable p a b (second_so (bytes_eq x n) _ h) (second_so (bytes_eq y n) _ k)) as (λ _. (is_under (x ∷ a) (y ∷ b) ≡ true) ⊎ (is_under (y ∷ b) (x ∷ a) ≡ true)) [
+      | inl below ↦ inl (both_true (subst (λ z. bytes_eq z x ≡ true) same (own_name x)) below)
+      | inr above ↦ inr (both_true (subst (λ z. bytes_eq x z ≡ true) same (own_name x)) above)
+    ]
+
+not_both : (b : Bool) → b ≡ true → not b ≡ true → ⊥
+not_both true h k = let q : true ≡ false = sym k in cc
+not_both false h k = let q : true ≡ false = sym h in cc
+
+pub by_test : (b : Bool) → (b ≡ true → ⊥) → b ≡ false
+by_test true never = absurd (never refl)
+by_test false never = refl
+
+-- what is under one of two that are apart isn't under the other
+pub elsewhere : (p a b : Path) → are_apart a b ≡ true → is_under p a ≡ true → is_under p b ≡ false
+elsewhere p a b apart h = by_test (is_under p b) (λ k. elim (comparable p a b h k) as (λ _. ⊥) [
+  | inl below ↦ not_both (is_under a b) below (first_so (not (is_under a b)) _ apart)
+  | inr above ↦ not_both (is_under b a) above (second_so (not (is_under a b)) _ apart)
+])
+
+-- nor under anything in the other
+pub elsewhere-below : (p a b c : Path) → are_apart a b ≡ true → is_under p a ≡ true → is_under p (b ++ c) ≡ false
+elsewhere-below p a b c apart h = by_test (is_under p (b ++ c)) (λ k. let out = elsewhere p a b apart h in let q : true ≡ false = sym (under-above p b c k) ∙ out in cc)
+
+-- being apart has no direction
+pub apart-back : (a b : Path) → are_apart a b ≡ true → are_apart b a ≡ true
+apart-back a b h = both_true (second_so (not (is_under a b)) _ h) (first_so (not (is_under a b)) _ h)
+
+pub drop-front : (a p : Path) → drop (length a) (a ++ p) ≡ p
+drop-front [] p = refl
+drop-front (n ∷ a) p = drop-front a p

@@ -1,0 +1,59 @@
+-- What a call above the world does, told by definitions over trees. This project's own.
+use Rattle.std.specs.Prelude.{◌≡◌, List, ◌++◌, Option, Some, None, Result, Ok, Err, option_map, OnOk, IsErrOf}
+use Rattle.std.specs.Option.{ForSome}
+use Rattle.kb_world.specs.Tree.{Tree}
+use Rattle.kb_world.specs.Public.{public_tree, foreign_tree}
+use Rattle.kb_world.specs.State.{State, HasCause}
+use Rattle.kb_world.specs.Outcome.{Outcome, Action, last_store}
+use Rattle.kb_world.specs.declared.roots.Roots.{Roots}
+use Rattle.kb_world.specs.declared.job.Report.{Report}
+use Rattle.kb_world.specs.declared.refusal.Refusal.{Refusal}
+use Rattle.kb_world.specs.declared.stop.Stop.{Stop}
+use Rattle.kb_world.specs.declared.stop.Stop.TheVariants.{Refused, Fault, NoMemory}
+
+-- The call went on where no refusal is due, and was refused exactly so where one is. A fault and want of memory tell
+-- nothing.
+abbrev pub Agrees : {T : Type 0} → Result T Stop → Option Refusal → Type 0
+Agrees (Ok value) due = due ≡ None
+Agrees (Err (Refused refusal)) due = due ≡ Some refusal
+Agrees (Err Fault) due = Unit {0}
+Agrees (Err NoMemory) due = Unit {0}
+
+-- The call changes nothing, and is refused exactly where this finds a cause in the tree.
+pub record Decides (due : Tree → Option Refusal) {T : Type 0} (old new : State) (result : Result T Stop) : Type 0 where
+  pub agrees : ForSome old.tree (λ tree. Agrees result (due tree))
+  pub tree : new.tree ≡ old.tree
+  pub roots : new.roots ≡ old.roots
+  pub cause : HasCause Fault old new result
+
+-- The call changes the tree so, and is never refused.
+pub record Transforms (change : Tree → Tree) {T : Type 0} (old new : State) (result : Result T Stop) : Type 0 where
+  pub done : OnOk result (new.tree ≡ option_map change old.tree)
+  pub unrefused : (refusal : Refusal) → IsErrOf result (Refused refusal) → ⊥
+  pub roots : new.roots ≡ old.roots
+  pub cause : HasCause Fault old new result
+
+-- the tree has this store, and this foreign tree
+pub record IsTreeOf (roots : Roots) (store foreign tree : Tree) : Type 0 where
+  pub public_part : public_tree roots tree ≡ store
+  pub foreign_part : foreign_tree roots tree ≡ foreign
+
+-- the outcome came about: the tree is that of its last store, and its texts were added to the report
+pub record CameAbout (roots : Roots) (outcome : Outcome) (due : Option Refusal) (now : Option Tree) (before after : Report) : Type 0 where
+  pub end : outcome.end ≡ due
+  pub tree : (tree : Tree) × (now ≡ Some tree) × IsTreeOf roots (last_store outcome) outcome.foreign tree
+  pub out : after.out ≡ before.out ++ outcome.out
+  pub err : after.err ≡ before.err ++ outcome.err
+
+-- where the call ends with an answer, the outcome came about
+abbrev pub Answers : {T : Type 0} → Roots → Outcome → Result T Stop → Option Tree → Report → Report → Type 0
+Answers roots outcome (Ok value) now before after = CameAbout roots outcome None now before after
+Answers roots outcome (Err (Refused refusal)) now before after = CameAbout roots outcome (Some refusal) now before after
+Answers roots outcome (Err Fault) now before after = Unit {0}
+Answers roots outcome (Err NoMemory) now before after = Unit {0}
+
+-- The one clause of an action: over a told tree the call does it.
+pub record Does (roots : Roots) (action : Action) {T : Type 0} (old new : State) (before after : Report) (result : Result T Stop) : Type 0 where
+  pub answers : ForSome old.tree (λ tree. Answers roots (action (public_tree roots tree) (foreign_tree roots tree)) result new.tree before after)
+  pub same_roots : new.roots ≡ old.roots
+  pub cause : HasCause Fault old new result

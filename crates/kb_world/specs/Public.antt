@@ -1,0 +1,50 @@
+-- Which part of the tree is whose. This project's own.
+use Rattle.std.specs.Prelude.{◌≡◌, ℕ, ◌+◌, Bool, true, false, ◌&&◌, ◌||◌, not, List, [], ◌∷◌, ◌++◌, length, drop, nat_eq, Option, codes, bytes_eq}
+use Rattle.std.specs.List.{list_any}
+use Rattle.std.specs.FinMap.{retain_keys}
+use Rattle.kb_world.specs.Names.{is_word, is_version}
+use Rattle.kb_world.specs.Path.{Path, child, is_under}
+use Rattle.kb_world.specs.Tree.{Tree, node_at, is_dir}
+use Rattle.kb_world.specs.declared.roots.Roots.{Roots}
+use Rattle.kb_world.specs.declared.tree.Node.{Node}
+
+-- the journal, and where it is written first
+abbrev pub intent_path : Roots → Path
+intent_path roots = child roots.dkms (codes ".intent")
+
+-- what a command stages before its journal is committed
+abbrev pub staging_path : Path → Path
+staging_path root = child root (codes ".kb-staged")
+
+abbrev pub private_places : Roots → List Path
+private_places roots =
+    intent_path roots ∷ child roots.dkms (codes ".intent.new") ∷ staging_path roots.dkms ∷ staging_path roots.src ∷ staging_path roots.modules
+    ∷ staging_path roots.boot ∷ child roots.boot (codes ".kb-plugins") ∷ []
+
+-- below the dkms root: the scratch tree MODULE/VERSION/build, and what is in it
+abbrev pub is_scratch : Path → Bool
+is_scratch (word ∷ version ∷ name ∷ rest) = is_word word && is_version version && bytes_eq name (codes "build")
+is_scratch (word ∷ version ∷ []) = false
+is_scratch (word ∷ []) = false
+is_scratch [] = false
+
+-- what the tool keeps for itself
+abbrev pub is_private : Roots → Path → Bool
+is_private roots path = list_any (is_under path) (private_places roots) || is_under path roots.dkms && is_scratch (drop (length roots.dkms) path)
+
+-- a file or a link directly in the boot root, as a kernel's image is
+abbrev pub is_loose : Roots → Path → Option Node → Bool
+is_loose roots path at = is_under path roots.boot && nat_eq (length path) (length roots.boot + 1) && not (is_dir at)
+
+-- what the roots that are written hold, but for what is private and what lies loose in the boot root
+abbrev pub is_public : Roots → Path → Option Node → Bool
+is_public roots path at =
+    list_any (is_under path) (roots.dkms ∷ roots.src ∷ roots.modules ∷ roots.boot ∷ []) && not (is_private roots path) && not (is_loose roots path at)
+
+-- the public tree
+unfoldable pub public_tree : Roots → Tree → Tree
+public_tree roots tree = retain_keys tree (λ path. is_public roots path (node_at tree path))
+
+-- the foreign tree: all that is neither public nor private
+unfoldable pub foreign_tree : Roots → Tree → Tree
+foreign_tree roots tree = retain_keys tree (λ path. not (is_public roots path (node_at tree path)) && not (is_private roots path))
