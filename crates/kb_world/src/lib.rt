@@ -10,6 +10,8 @@ mod refusal;
 mod roots;
 mod sink;
 mod stop;
+#[cfg(test)]
+mod tests;
 mod text;
 mod tree;
 mod world;

@@ -179,3 +179,6 @@ pub fn bad_boot_line() -> &'static str
 {
     "kmodboot: bad KMODBOOT_BOOT\n"
 }
+
+#[cfg(test)]
+mod tests;
