@@ -5,3 +5,4 @@ pub mod SinkState
 pub mod State
 pub mod Stop
 pub mod Tree
+pub mod TreeLaws
