@@ -1,0 +1,3 @@
+pub mod EditLaws
+pub mod NodeLaws
+pub mod PlanLaws
