@@ -1,3 +1,4 @@
 pub mod EditLaws
+pub mod NewWorlds
 pub mod NodeLaws
 pub mod PlanLaws
