@@ -1,0 +1,4 @@
+pub mod EditLaws
+pub mod NewWorlds
+pub mod NodeLaws
+pub mod PlanLaws

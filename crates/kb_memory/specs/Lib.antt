@@ -1,0 +1,5 @@
+pub mod Coded
+pub mod Edits
+pub mod Plan
+pub mod Sink
+pub mod World
