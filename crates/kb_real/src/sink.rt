@@ -16,7 +16,7 @@ pub struct StdSink<W> {
 }
 
 impl<W: Write> StdSink<W> {
-    fn new(writer: W) -> StdSink<W>
+    pub(crate) fn new(writer: W) -> StdSink<W>
         ensures { ⟦<StdSink<W> as Sink>⟧.state result ≡ untold_sink 0 }
     {
         StdSink {
