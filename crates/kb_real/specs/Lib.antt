@@ -1,3 +1,4 @@
 pub mod Faults
+pub mod Modes
 pub mod Pieces
 pub mod Untold

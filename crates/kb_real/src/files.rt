@@ -1,4 +1,9 @@
 // What a world does to the system's files. A path is its text, which begins with `/`.
+ghost use Rattle.std.specs.Prelude.{◌≡◌, ◌≢◌, ◌⊎◌, ◌↔◌, ℕ, IfOk, IsErr, IsTrue};
+ghost use Rattle.std.specs.IoError.{error_kind};
+ghost use Rattle.std.specs.Fs.{metadata_len, metadata_mode, file_type, IsDir, IsFile, IsSymlink};
+ghost use Rattle.kb_real.specs.Modes.{owner_executes};
+
 use crate::pieces::length_to_end;
 use kb_world::{Kind, Text};
 use std::alloc::Global;
@@ -15,20 +20,33 @@ const DIRECTORY_MODE: u32 = 0o755;
 const OWNER_EXECUTES: u32 = 0o100;
 
 // Nothing stands at the path: it isn't there, or what it should stand in is no directory.
-fn is_absence(error: &io::Error) -> bool {
+fn is_absence(error: &io::Error) -> bool
+    ensures { IsTrue result ↔ ((error_kind error.now ≡ ErrorKind.NotFound) ⊎ (error_kind error.now ≡ ErrorKind.NotADirectory)) }
+{
     matches!(error.kind(), ErrorKind::NotFound | ErrorKind::NotADirectory)
 }
 
 // The length of a file in bytes. The system gives 0 for files that it makes up as they are read, such as those below
 // /proc, so a length of 0 is counted by reading.
-fn file_length<R: Files>(rt: &R, path: &str, metadata: &Metadata) -> io::Result<u64> {
+fn file_length<R: Files>(rt: &R, path: &str, metadata: &Metadata) -> io::Result<u64>
+    ensures { metadata_len metadata.now ≢ 0 → result ≡ Ok (metadata_len metadata.now) }
+{
     match metadata.len() {
         0 => length_to_end(&mut fs::open(rt, path)?),
         len => Ok(len),
     }
 }
 
-fn kind_told<R: Files>(rt: &R, path: &str, metadata: &Metadata) -> io::Result<Kind> {
+// What the system told of the thing at the path, as a kind.
+fn kind_told<R: Files>(rt: &R, path: &str, metadata: &Metadata) -> io::Result<Kind>
+    ensures dir { IsDir (file_type metadata.now) → result ≡ Ok Kind.Dir }
+    ensures link { IsSymlink (file_type metadata.now) → result ≡ Ok Kind.Link }
+    ensures file { IsFile (file_type metadata.now) → metadata_len metadata.now ≢ 0
+        → result ≡ Ok (Kind.File (metadata_len metadata.now) (owner_executes (metadata_mode metadata.now))) }
+    ensures file_to_count { IsFile (file_type metadata.now)
+        → IfOk result (λ kind. (len : ℕ) × (kind ≡ Kind.File len (owner_executes (metadata_mode metadata.now)))) }
+    ensures other { ¬ IsDir (file_type metadata.now) → ¬ IsSymlink (file_type metadata.now) → ¬ IsFile (file_type metadata.now) → IsErr result }
+{
     if metadata.is_dir() {
         Ok(Kind::Dir)
     } else if metadata.is_symlink() {

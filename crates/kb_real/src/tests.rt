@@ -53,14 +53,26 @@ fn reads_the_link_that_it_made(rt: HostRuntime) -> Result<(), Fail> {
     let folder = make_folder(rt, "reads_the_link_that_it_made")?;
     let mut world = HostWorld::new(rt);
     let path = below(alloc, &folder, "entry")?;
-    assert_eq!(rt; world.read_link(alloc, &path).err(), Some(WorldError::Failed));
+    assert_eq!(rt;
+        world.read_link(alloc, &path).err(),
+        Some(WorldError::Failed)
+    );
     assert_eq!(rt; world.put_link(alloc, &path, "/usr/src/hello-1.0"), Ok(()));
     assert_eq!(rt; world.look(alloc, &path), Ok(Kind::Link));
-    assert_eq!(rt; world.read_link(alloc, &path)?.as_str(), "/usr/src/hello-1.0");
+    assert_eq!(rt;
+        world.read_link(alloc, &path)?.as_str(),
+        "/usr/src/hello-1.0"
+    );
     assert_eq!(rt; world.put_link(alloc, &path, "/"), Err(WorldError::Failed));
-    assert_eq!(rt; world.read_link(alloc, &folder).err(), Some(WorldError::Failed));
+    assert_eq!(rt;
+        world.read_link(alloc, &folder).err(),
+        Some(WorldError::Failed)
+    );
     let orphan = below(alloc, &folder, "absent/entry")?;
-    assert_eq!(rt; world.put_link(alloc, &orphan, "/"), Err(WorldError::Failed));
+    assert_eq!(rt;
+        world.put_link(alloc, &orphan, "/"),
+        Err(WorldError::Failed)
+    );
     remove_folder(rt, &folder)
 }
 
@@ -71,11 +83,19 @@ fn looks_at_files(rt: HostRuntime) -> Result<(), Fail> {
     let mut world = HostWorld::new(rt);
     let path = below(alloc, &folder, "entry")?;
     let text = path.text(alloc)?;
-    for (bytes, mode, exec) in [("", 0o644, false), ("hello", 0o744, true), ("hello", 0o655, false)] {
+    for (bytes, mode, exec) in [
+        ("", 0o644, false),
+        ("hello", 0o744, true),
+        ("hello", 0o655, false),
+    ] {
         fs::write(&rt, text.as_str(), bytes)?;
         fs::set_permissions(&rt, text.as_str(), Permissions::from_mode(mode))?;
         let len = bytes.len() as u64;
-        assert_eq!(rt; world.look(alloc, &path), Ok(Kind::File { len, exec }), "{mode}");
+        assert_eq!(rt;
+            world.look(alloc, &path),
+            Ok(Kind::File { len, exec }),
+            "{mode}"
+        );
     }
     let inside = below(alloc, &folder, "entry/inside")?;
     assert_eq!(rt; world.look(alloc, &inside), Ok(Kind::Absent));
@@ -167,9 +187,13 @@ fn halts_where_its_reader_or_writer_does(rt: HostRuntime) -> Result<(), Fail> {
     let failed = length_to_end(&mut halting(true)).err().map(|e| e.kind());
     assert_eq!(rt; failed, Some(ErrorKind::BrokenPipe));
     assert!(rt; write_whole(&mut halting(false), b"ab").is_ok());
-    let refused = write_whole(&mut halting(false), b"abc").err().map(|e| e.kind());
+    let refused = write_whole(&mut halting(false), b"abc")
+        .err()
+        .map(|e| e.kind());
     assert_eq!(rt; refused, Some(ErrorKind::WriteZero));
-    let failed = write_whole(&mut halting(true), b"abc").err().map(|e| e.kind());
+    let failed = write_whole(&mut halting(true), b"abc")
+        .err()
+        .map(|e| e.kind());
     assert_eq!(rt; failed, Some(ErrorKind::BrokenPipe));
     Ok(())
 }
