@@ -1,0 +1,54 @@
+-- What calls do to a world and a sink that tell their counts of faults alone.
+use Rattle.std.proofs.Common.{◌≡◌, ℕ, ◌≤◌, List, Result, Ok, Err, OnOk, IsErrOf, refl, inl, arith}
+use Rattle.kb_world.specs.Tree.{Tree}
+use Rattle.kb_world.specs.State.{HasCause, Looks, Changes, Rose}
+use Rattle.kb_world.specs.SinkState.{Writes}
+use Rattle.kb_world.specs.declared.sink.SinkError.TheVariants as sink_error
+use Rattle.kb_world.specs.declared.world.WorldError.{WorldError}
+use Rattle.kb_world.specs.declared.world.WorldError.TheVariants.{Failed, NoMemory}
+use Rattle.kb_real.specs.Faults.{risen, faults_after}
+use Rattle.kb_real.specs.Untold.{untold, untold_sink}
+
+rose : {T : Type 0} (before after : ℕ) (result : Result T WorldError) → after ≡ faults_after result before → IsErrOf result Failed → Rose before after
+rose before after (Ok value) faults failed = grind arith
+rose before after (Err Failed) faults failed = grind arith
+rose before after (Err NoMemory) faults failed = grind arith
+
+pub untold_cause : {T : Type 0} (before after : ℕ) (result : Result T WorldError) → before ≤ after → after ≡ faults_after result before
+    → HasCause Failed (untold before) (untold after) result
+untold_cause before after result later faults = record {
+  later = later;
+  rose = rose before after result faults;
+  steady = λ steady. steady;
+  never = λ steady _. grind arith;
+}
+
+pub untold_looks : {T : Type 0} (before after : ℕ) (result : Result T WorldError) → before ≤ after → after ≡ faults_after result before
+    → Looks (untold before) (untold after) result
+untold_looks before after result later faults = record { tree = refl; roots = refl; cause = untold_cause before after result later faults }
+
+on_ok : {T : Type 0} (result : Result T WorldError) (P : Type 0) → P → OnOk result P
+on_ok (Ok value) P holds = holds
+on_ok (Err error) P holds = tt
+
+pub untold_changes : {T : Type 0} (change : Tree → Tree) (before after : ℕ) (result : Result T WorldError) → before ≤ after → after ≡ faults_after result before
+    → Changes change (untold before) (untold after) result
+untold_changes change before after result later faults = record {
+  done = on_ok result _ refl;
+  failed = λ _. inl refl;
+  no_memory = λ _. refl;
+  roots = refl;
+  cause = untold_cause before after result later faults;
+}
+
+pub untold_write_fails : {T : Type 0} (piece : List ℕ) (before after : ℕ) → before ≤ after → after ≡ risen before
+    → Writes piece {T = T} (untold_sink before) (untold_sink after) (Err sink_error.Failed)
+untold_write_fails piece before after later faults = record {
+  done = tt;
+  failed = λ _. (0, refl);
+  no_memory = λ _. refl;
+  later = later;
+  rose = λ _. grind arith;
+  steady = λ steady. steady;
+  never = λ steady _. grind arith;
+}

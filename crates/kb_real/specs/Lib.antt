@@ -1,0 +1,4 @@
+pub mod Faults
+pub mod Modes
+pub mod Pieces
+pub mod Untold

@@ -1,0 +1,12 @@
+-- What a world and a sink mean that tell their counts of faults alone. This project's own.
+use Rattle.std.specs.Prelude.{ℕ, [], false, None}
+use Rattle.kb_world.specs.Roots.{roots_under}
+use Rattle.kb_world.specs.State.{State}
+use Rattle.kb_world.specs.SinkState.{SinkState}
+
+-- No clause speaks of the roots of a world that doesn't tell its tree, so they are the usual ones.
+abbrev pub untold : ℕ → State
+untold faults = record { tree = None; roots = roots_under []; faults = faults; steady = false }
+
+abbrev pub untold_sink : ℕ → SinkState
+untold_sink faults = record { written = None; faults = faults; steady = false }
