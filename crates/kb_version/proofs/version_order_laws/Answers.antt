@@ -1,0 +1,18 @@
+use Rattle.std.proofs.Common.{refl, ◌≡◌, ◌∙◌, ap, sym, subst}
+use Rattle.std.proofs.lemmas.Cmp.{tied_itself}
+use Rattle.std.specs.declared.cmp.Ordering.TheVariants.{Equal}
+use Rattle.kb_version.specs.Order.{version_order}
+use Rattle.kb_version.specs.OrderLaws.{version_order_total, version_order_exact}
+use Rattle.kb_version.proofs.version_order_laws.Goals as goal
+
+pub returns-clause-total : goal.returns-clause-total
+returns-clause-total c = version_order_total
+
+pub returns-clause-equal_exactly : goal.returns-clause-equal_exactly
+returns-clause-equal_exactly c a b = (version_order_exact a b, λ e. subst (λ t. version_order a t ≡ Equal) e (tied_itself version_order_total a))
+
+pub returns-clause-swapped : goal.returns-clause-swapped
+returns-clause-swapped c a b = version_order_total.antisymm b a
+
+pub returns-clause-transitive : goal.returns-clause-transitive
+returns-clause-transitive c a b other = version_order_total.trans a b other

@@ -1,0 +1,4 @@
+pub mod Items
+pub mod Order
+pub mod OrderLaws
+pub mod Piece
