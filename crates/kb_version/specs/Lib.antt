@@ -2,3 +2,4 @@ pub mod Items
 pub mod Order
 pub mod OrderLaws
 pub mod Piece
+pub mod Digits

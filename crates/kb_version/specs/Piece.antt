@@ -1,6 +1,6 @@
 -- What the pieces of a text stand for.
-use Rattle.std.specs.Prelude.{◌≡◌, ℕ, ◌<◌, List, [], ◌∷◌, length}
-use Rattle.std.specs.Str.Parse.{digits_value}
+use Rattle.std.specs.Prelude.{ℕ, List, [], ⊤}
+use Rattle.std.specs.Str.Parse.{digits_value, AllDigits}
 use Rattle.kb_version.specs.declared.piece.Piece.{Piece}
 use Rattle.kb_version.specs.declared.piece.Piece.TheVariants as piece
 use Rattle.kb_version.specs.Items.{Item, Tilde, End, Dash, Caret, Dot, Letters, Number, items}
@@ -14,7 +14,12 @@ item_of piece.Dot = Dot
 item_of (piece.Letters run) = Letters run.now
 item_of (piece.Digits run) = Number (digits_value 10 run.now)
 
--- the items that are left after a piece and the text behind it
+-- a piece of digits has digits alone
+abbrev pub IsNumeric : Piece → Type 0
+IsNumeric (piece.Digits run) = AllDigits 10 run.now
+IsNumeric other = ⊤
+
+-- the items after an item, in the text behind it: none after the end
 abbrev pub items_behind : Item → List ℕ → List Item
 items_behind End rest = []
 items_behind item rest = items rest

@@ -9,8 +9,9 @@ ghost use Rattle.std.specs.Cmp.{IsTotalOrder};
 ghost use Rattle.std.specs.Ordering.{ordering_reverse};
 ghost use Rattle.kb_version.specs.Order.{version_order, items_order};
 
-pub mod piece;
+mod piece;
 
+use piece::{next_piece, piece_cmp};
 use std::cmp::Ordering;
 
 /// Compares two versions.
@@ -26,7 +27,25 @@ pub fn version_cmp(a: &str, b: &str) -> Ordering
     ensures order { result ≡ version_order a.now b.now }
     ensures equal { (result ≡ Ordering.Equal) ↔ (a.now ≡ b.now) }
 {
-    a.cmp(b)
+    items_cmp(a.as_bytes(), b.as_bytes()).then_with(|| a.cmp(b))
+}
+
+/// Compares two texts item by item.
+fn items_cmp(a: &[u8], b: &[u8]) -> Ordering
+    ensures { result ≡ items_order a.now b.now }
+{
+    let mut left = a;
+    let mut right = b;
+    'items: loop {
+        let (x, left_rest) = next_piece(left);
+        let (y, right_rest) = next_piece(right);
+        let order = piece_cmp(x, y);
+        if order != Ordering::Equal || x.is_end() {
+            return order;
+        }
+        left = left_rest;
+        right = right_rest;
+    }
 }
 
 /// The laws of the order, for those who sort by it or keep a map under it.

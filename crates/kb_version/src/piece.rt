@@ -1,26 +1,28 @@
 //! The pieces of a version as they stand in its text.
-ghost use Rattle.std.specs.Prelude.{◌≡◌, ◌<◌, ◌↔◌, length, IsTrue, drop};
+ghost use Rattle.std.specs.Prelude.{◌≡◌, ◌≢◌, ◌<◌, ◌↔◌, ◌∷◌, length, IsTrue};
 ghost use Rattle.std.specs.List.{prefix_len};
+ghost use Rattle.std.specs.Ordering.{nat_cmp};
+ghost use Rattle.std.specs.Str.Parse.{digits_value, AllDigits};
 ghost use Rattle.std.specs.Char.{is_ascii_alphabetic, is_ascii_digit};
 ghost use Rattle.kb_version.specs.Items.{items, End};
-ghost use Rattle.kb_version.specs.Piece.{item_of};
+ghost use Rattle.kb_version.specs.Piece.{item_of, items_behind, IsNumeric};
+ghost use Rattle.kb_version.specs.Digits.{without_zeros};
 ghost use Rattle.kb_version.specs.Order.{item_order, rank};
 
 use std::cmp::Ordering;
 
-/// Comes before the end of the text, as in `1.0~rc1`.
+/// Comes before the end of the text: `1.0~rc1` is before `1.0`.
 pub const TILDE: u8 = b'~';
 
-/// Separates what comes after a release, as in `1.0-2`.
 pub const DASH: u8 = b'-';
 
-/// Comes after a dash, as in `1.0^20240101`.
 pub const CARET: u8 = b'^';
 
-/// Separates the parts of a version.
 pub const DOT: u8 = b'.';
 
-/// An item of a version, with the bytes of a run.
+pub const ZERO: u8 = b'0';
+
+/// An item of a version, with the bytes of a run as they stand in the text.
 #[derive(Clone, Copy)]
 pub enum Piece<'a> {
     Tilde,
@@ -34,14 +36,14 @@ pub enum Piece<'a> {
 
 impl Piece<'_> {
     pub fn is_end(self) -> bool
-        ensures { IsTrue result ↔ (item_of self ≡ End) }
+        ensures { IsTrue result ↔ (item_of self.entry ≡ End) }
     {
         matches!(self, Piece::End)
     }
 
     /// The place of its kind in the order of items.
     fn rank(self) -> u8
-        ensures { result ≡ rank (item_of self) }
+        ensures { result ≡ rank (item_of self.entry) }
     {
         match self {
             Piece::Tilde => 0,
@@ -53,4 +55,80 @@ impl Piece<'_> {
             Piece::Digits(_) => 6,
         }
     }
+}
+
+/// Compares two items.
+pub fn piece_cmp(x: Piece<'_>, y: Piece<'_>) -> Ordering
+    requires x_numeric { IsNumeric x }
+    requires y_numeric { IsNumeric y }
+    ensures { result ≡ item_order (item_of x.entry) (item_of y.entry) }
+{
+    match (x, y) {
+        (Piece::Letters(v), Piece::Letters(w)) => v.cmp(w),
+        (Piece::Digits(m), Piece::Digits(n)) => number_cmp(m, n),
+        _ => x.rank().cmp(&y.rank()),
+    }
+}
+
+/// Compares two runs of digits as numbers, of any length.
+fn number_cmp(m: &[u8], n: &[u8]) -> Ordering
+    requires m_digits { AllDigits 10 m.now }
+    requires n_digits { AllDigits 10 n.now }
+    ensures { result ≡ nat_cmp (digits_value 10 m.now) (digits_value 10 n.now) }
+{
+    let m = without_zeros(m);
+    let n = without_zeros(n);
+    m.len().cmp(&n.len()).then_with(|| m.cmp(n))
+}
+
+/// The run without its leading zeros.
+fn without_zeros(digits: &[u8]) -> &[u8]
+    ensures { result.now ≡ without_zeros digits.now }
+{
+    let mut rest = digits;
+    while let [ZERO, tail @ ..] = rest {
+        rest = tail;
+    }
+    rest
+}
+
+/// Cuts the first piece off a text, and gives the text behind it.
+pub fn next_piece(text: &[u8]) -> (Piece<'_>, &[u8])
+    ensures items { items text.now ≡ item_of result.0 ∷ items_behind (item_of result.0) result.1.now }
+    ensures numeric { IsNumeric result.0 }
+    ensures shorter { item_of result.0 ≢ End → length result.1.now < length text.now }
+{
+    let mut rest = text;
+    while let [first, tail @ ..] = rest {
+        match *first {
+            TILDE => return (Piece::Tilde, tail),
+            DASH => return (Piece::Dash, tail),
+            CARET => return (Piece::Caret, tail),
+            DOT => return (Piece::Dot, tail),
+            b'0'..=b'9' => {
+                let (digits, behind) = rest.split_at(digits_len(rest));
+                return (Piece::Digits(digits), behind);
+            }
+            b'A'..=b'Z' | b'a'..=b'z' => {
+                let (letters, behind) = rest.split_at(letters_len(rest));
+                return (Piece::Letters(letters), behind);
+            }
+            _ => rest = tail,
+        }
+    }
+    (Piece::End, rest)
+}
+
+/// How many digits stand first.
+fn digits_len(text: &[u8]) -> usize
+    ensures { result ≡ prefix_len is_ascii_digit text.now }
+{
+    text.iter().take_while(|c| c.is_ascii_digit()).count()
+}
+
+/// How many letters stand first.
+fn letters_len(text: &[u8]) -> usize
+    ensures { result ≡ prefix_len is_ascii_alphabetic text.now }
+{
+    text.iter().take_while(|c| c.is_ascii_alphabetic()).count()
 }
