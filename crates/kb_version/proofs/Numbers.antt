@@ -1,12 +1,11 @@
 -- Numbers go by the count of their digits, leading zeros aside, and then by their digits.
-use Rattle.std.proofs.Common.{◌≡◌, ◌≢◌, ℕ, ◌+◌, ◌*◌, ◌<◌, ◌≤◌, List, [], ◌∷◌, length, refl, sym, ◌∙◌, ap, subst, arith, Bool, true, false, cond}
+use Rattle.std.proofs.Common.{◌≡◌, ◌≢◌, ℕ, ◌+◌, ◌*◌, ◌<◌, ◌≤◌, List, [], ◌∷◌, length, refl, sym, ◌∙◌, ap, arith, Bool, true, false, cond}
 use Rattle.std.specs.Prelude.{◌==◌, ⊤}
 use Rattle.std.proofs.lemmas.Bool.{eqb-true, eqb-false}
 use Rattle.std.proofs.lemmas.Str.{digit_value_digit}
 use Rattle.std.proofs.lemmas.Str.Parse.{digit_from_value}
-use Rattle.std.specs.declared.cmp.Ordering.{Ordering}
-use Rattle.std.specs.declared.cmp.Ordering.TheVariants.{Less, Equal, Greater}
-use Rattle.std.specs.Ordering.{nat_cmp, ordering_then, MatchOrdering}
+use Rattle.std.specs.declared.cmp.Ordering.TheVariants.{Less, Greater}
+use Rattle.std.specs.Ordering.{nat_cmp, ordering_then}
 use Rattle.std.specs.Cmp.{nat_cmp_is, ranks}
 use Rattle.std.specs.Cmp.Lexicographic.{slice_cmp}
 use Rattle.std.specs.Char.{digit_value}
@@ -48,15 +47,15 @@ slice_cmp-digits n (x ∷ xs) (y ∷ ys) left right same =
     let after_y = digits_value_after 10 (n * 10 + digit_value y) ys in
     by_ranked (x < y) (x ≡ y) (y < x) (nat_cmp x y) (ranks x y)
     (λ e less.
-        nat_cmp-Less after_x after_y (digits_value-below (n * 10 + digit_value x) (n * 10 + digit_value y) xs ys left.1 (omega arith) (omega arith))
-        ∙ ap (λ o. ordering_then o (slice_cmp nat_cmp xs ys)) (sym e))
+    nat_cmp-Less after_x after_y (digits_value-below (n * 10 + digit_value x) (n * 10 + digit_value y) xs ys left.1 (omega arith) (omega arith))
+    ∙ ap (λ o. ordering_then o (slice_cmp nat_cmp xs ys)) (sym e))
     (λ e same_digit.
-        ap (λ d. nat_cmp after_x (digits_value_after 10 (n * 10 + digit_value d) ys)) (sym same_digit)
-        ∙ slice_cmp-digits (n * 10 + digit_value x) xs ys left.1 right.1 (omega arith)
-        ∙ ap (λ o. ordering_then o (slice_cmp nat_cmp xs ys)) (sym e))
+    ap (λ d. nat_cmp after_x (digits_value_after 10 (n * 10 + digit_value d) ys)) (sym same_digit)
+    ∙ slice_cmp-digits (n * 10 + digit_value x) xs ys left.1 right.1 (omega arith)
+    ∙ ap (λ o. ordering_then o (slice_cmp nat_cmp xs ys)) (sym e))
     (λ e greater.
-        nat_cmp-Greater after_x after_y (digits_value-below (n * 10 + digit_value y) (n * 10 + digit_value x) ys xs right.1 (omega arith) (omega arith))
-        ∙ ap (λ o. ordering_then o (slice_cmp nat_cmp xs ys)) (sym e))
+    nat_cmp-Greater after_x after_y (digits_value-below (n * 10 + digit_value y) (n * 10 + digit_value x) ys xs right.1 (omega arith) (omega arith))
+    ∙ ap (λ o. ordering_then o (slice_cmp nat_cmp xs ys)) (sym e))
 
 -- the first digit, if there is one, is no zero
 abbrev pub IsSignificant : List ℕ → Type 0

@@ -1,5 +1,5 @@
 -- Leading zeros.
-use Rattle.std.specs.Prelude.{◌≢◌, ℕ, List, [], ◌∷◌, ◌==◌, if◌then◌else◌, ⊤}
+use Rattle.std.specs.Prelude.{ℕ, List, [], ◌∷◌, ◌==◌, if◌then◌else◌}
 use Rattle.kb_version.specs.declared.piece.TheConstants.{ZERO}
 
 -- the digits from the first that is no zero on

@@ -1,6 +1,6 @@
 -- The order of versions is a total order that tells different texts apart.
 use Rattle.std.specs.Prelude.{◌≡◌, ℕ, List, [], refl}
-use Rattle.std.proofs.Common.{sym, ◌∙◌, ap, subst}
+use Rattle.std.proofs.Common.{sym, subst}
 use Rattle.std.specs.declared.cmp.Ordering.{Ordering}
 use Rattle.std.specs.declared.cmp.Ordering.TheVariants.{Less, Equal, Greater}
 use Rattle.std.specs.Ordering.{nat_cmp, ordering_then, then_cmp, on}
@@ -8,7 +8,7 @@ use Rattle.std.specs.Cmp.{IsTotalOrder}
 use Rattle.std.specs.Cmp.Lexicographic.{slice_cmp}
 use Rattle.std.proofs.lemmas.Cmp.{nat_cmp_total, nat_list_cmp_total, lists_total, on_total, then_total}
 use Rattle.std.proofs.lemmas.Map.Lookups.{CmpEqualImpliesEq, exact_bytes}
-use Rattle.kb_version.specs.Items.{Item, Tilde, End, Dash, Caret, Dot, Letters, Number, items}
+use Rattle.kb_version.specs.Items.{Item, Letters, Number, items}
 use Rattle.kb_version.specs.Order.{rank, item_order, items_order, version_order}
 
 -- the bytes of a run of letters, and of other items none

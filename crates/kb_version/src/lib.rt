@@ -54,5 +54,4 @@ pub fn version_order_laws()
     ensures equal_exactly { (a b : List ℕ) → (version_order a b ≡ Ordering.Equal) ↔ (a ≡ b) }
     ensures swapped { (a b : List ℕ) → version_order b a ≡ ordering_reverse (version_order a b) }
     ensures transitive { (a b c : List ℕ) → version_order a b ≡ Ordering.Less → version_order b c ≡ Ordering.Less → version_order a c ≡ Ordering.Less }
-{
-}
+{}
