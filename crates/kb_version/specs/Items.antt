@@ -15,7 +15,7 @@ pub data Item : Type 0 where
   Letters : List ℕ → Item
   Number : ℕ → Item
 
--- what a byte is to a version. A byte of a character beyond ASCII is skipped, as the character is
+-- what a byte is to a version. Each byte of a character beyond ASCII is skipped, as the character is
 pub data Kind : Type 0 where
   Letter : Kind
   Digit : Kind
@@ -31,7 +31,8 @@ kind_of c =
     if c == CARET then Sign Caret else
     if c == DOT then Sign Dot else Skipped
 
--- the items that begin at a byte c of the second kind, which stands after a byte of the first kind and before the rest: a run begins at its first byte and goes as far as it can
+-- the items that begin at a byte c, one or none: `before` is the kind of the byte before it, then its own kind, and `rest` what follows it.
+-- A run begins at a byte that doesn't go on with the run before it, and it goes as far as it can
 abbrev pub begun : Kind → Kind → ℕ → List ℕ → List Item
 begun Letter Letter c rest = []
 begun before Letter c rest = Letters (c ∷ take_while is_ascii_alphabetic rest) ∷ []
@@ -40,11 +41,11 @@ begun before Digit c rest = Number (digits_value 10 (c ∷ take_while is_ascii_d
 begun before (Sign item) c rest = item ∷ []
 begun before Skipped c rest = []
 
--- the items of a text that stands after a byte of this kind
+-- the items of a text that follows a byte of this kind, the end among them
 abbrev pub items_after : Kind → List ℕ → List Item
 items_after before [] = End ∷ []
 items_after before (c ∷ rest) = begun before (kind_of c) c rest ++ items_after (kind_of c) rest
 
--- the items of a whole text, the end among them
+-- the items of a whole text, whose first byte begins an item as it would after a skipped one
 abbrev pub items : List ℕ → List Item
 items text = items_after Skipped text

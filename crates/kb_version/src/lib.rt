@@ -7,6 +7,7 @@
 ghost use Rattle.std.specs.Prelude.{◌≡◌, ℕ, ◌↔◌, List};
 ghost use Rattle.std.specs.Cmp.{IsTotalOrder};
 ghost use Rattle.std.specs.Ordering.{ordering_reverse};
+ghost use Rattle.std.proofs.lemmas.Map.Lookups.{CmpEqualImpliesEq};
 ghost use Rattle.kb_version.specs.Order.{version_order, items_order};
 
 mod piece;
@@ -48,10 +49,17 @@ fn items_cmp(a: &[u8], b: &[u8]) -> Ordering
     }
 }
 
-/// The laws of the order, for those who sort by it or keep a map under it.
+/// The laws of the order, for those who sort by it or keep a map under it. It does nothing: a
+/// caller's proof takes the laws from the call.
 pub fn version_order_laws()
-    ensures total { IsTotalOrder version_order }
-    ensures equal_exactly { (a b : List ℕ) → (version_order a b ≡ Ordering.Equal) ↔ (a ≡ b) }
     ensures swapped { (a b : List ℕ) → version_order b a ≡ ordering_reverse (version_order a b) }
-    ensures transitive { (a b c : List ℕ) → version_order a b ≡ Ordering.Less → version_order b c ≡ Ordering.Less → version_order a c ≡ Ordering.Less }
-{}
+    ensures transitive {
+        (a b c : List ℕ) →
+            version_order a b ≡ Ordering.Less → version_order b c ≡ Ordering.Less → version_order a c ≡ Ordering.Less
+    }
+
+    // What a sort and a finite map ask of an order.
+    ensures total { IsTotalOrder version_order }
+    ensures exact { CmpEqualImpliesEq version_order }
+{
+}

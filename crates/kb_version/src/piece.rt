@@ -1,4 +1,4 @@
-//! The pieces of a version as they stand in its text.
+//! The items of a version as they stand in its text.
 ghost use Rattle.std.specs.Prelude.{◌≡◌, ◌≢◌, ◌<◌, ◌↔◌, ◌∷◌, length, IsTrue};
 ghost use Rattle.std.specs.List.{prefix_len};
 ghost use Rattle.std.specs.Ordering.{nat_cmp};
@@ -11,7 +11,7 @@ ghost use Rattle.kb_version.specs.Order.{item_order, rank};
 
 use std::cmp::Ordering;
 
-/// Comes before the end of the text: `1.0~rc1` is before `1.0`.
+// The signs that are items, from the least to the greatest. The end of the text comes after `~`.
 pub const TILDE: u8 = b'~';
 
 pub const DASH: u8 = b'-';
@@ -70,15 +70,16 @@ pub fn piece_cmp(x: Piece<'_>, y: Piece<'_>) -> Ordering
     }
 }
 
-/// Compares two runs of digits as numbers, of any length.
+/// Compares two runs of digits as numbers: leading zeros dropped, the shorter is less, and runs of
+/// one length go by bytes. So a run may have any length, and no number is computed.
 fn number_cmp(m: &[u8], n: &[u8]) -> Ordering
     requires m_digits { AllDigits 10 m.now }
     requires n_digits { AllDigits 10 n.now }
     ensures { result ≡ nat_cmp (digits_value 10 m.now) (digits_value 10 n.now) }
 {
-    let m = without_zeros(m);
-    let n = without_zeros(n);
-    m.len().cmp(&n.len()).then_with(|| m.cmp(n))
+    let x = without_zeros(m);
+    let y = without_zeros(n);
+    x.len().cmp(&y.len()).then_with(|| x.cmp(y))
 }
 
 /// The run without its leading zeros.
@@ -92,7 +93,7 @@ fn without_zeros(digits: &[u8]) -> &[u8]
     rest
 }
 
-/// Cuts the first piece off a text, and gives the text behind it.
+/// Cuts the first item off a text, past what is skipped, and gives the text behind it.
 pub fn next_piece(text: &[u8]) -> (Piece<'_>, &[u8])
     ensures items { items text.now ≡ item_of result.0 ∷ items_behind (item_of result.0) result.1.now }
     ensures numeric { IsNumeric result.0 }

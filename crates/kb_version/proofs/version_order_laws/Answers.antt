@@ -8,8 +8,8 @@ use Rattle.kb_version.proofs.version_order_laws.Goals as goal
 pub returns-clause-total : goal.returns-clause-total
 returns-clause-total c = version_order_total
 
-pub returns-clause-equal_exactly : goal.returns-clause-equal_exactly
-returns-clause-equal_exactly c a b = (version_order_exact a b, λ e. subst (λ t. version_order a t ≡ Equal) e (tied_itself version_order_total a))
+pub returns-clause-exact : goal.returns-clause-exact
+returns-clause-exact c = version_order_exact
 
 pub returns-clause-swapped : goal.returns-clause-swapped
 returns-clause-swapped c a b = version_order_total.antisymm b a
