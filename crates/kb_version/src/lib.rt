@@ -53,13 +53,13 @@ fn items_cmp(a: &[u8], b: &[u8]) -> Ordering
 /// caller's proof takes the laws from the call.
 pub fn version_order_laws()
     ensures swapped { (a b : List ℕ) → version_order b a ≡ ordering_reverse (version_order a b) }
-    ensures transitive {
-        (a b c : List ℕ) →
-            version_order a b ≡ Ordering.Less → version_order b c ≡ Ordering.Less → version_order a c ≡ Ordering.Less
-    }
+    ensures transitive { (a b c : List ℕ) →
+        version_order a b ≡ Ordering.Less → version_order b c ≡ Ordering.Less → version_order a c ≡ Ordering.Less }
 
     // What a sort and a finite map ask of an order.
     ensures total { IsTotalOrder version_order }
     ensures exact { CmpEqualImpliesEq version_order }
-{
-}
+{}
+
+#[cfg(test)]
+mod tests;
