@@ -13,10 +13,10 @@ kind_of-letter c e = grind (arith, nat_tests)
 kind_of-digit : (c : ℕ) → is_ascii_digit c ≡ true → kind_of c ≡ Digit
 kind_of-digit c e = grind (arith, nat_tests)
 
-kind_of-no_letter : (c : ℕ) → is_ascii_alphabetic c ≡ false → kind_of c ≢ Letter
+pub kind_of-no_letter : (c : ℕ) → is_ascii_alphabetic c ≡ false → kind_of c ≢ Letter
 kind_of-no_letter c e = λ h. grind (arith, nat_tests)
 
-kind_of-no_digit : (c : ℕ) → is_ascii_digit c ≡ false → kind_of c ≢ Digit
+pub kind_of-no_digit : (c : ℕ) → is_ascii_digit c ≡ false → kind_of c ≢ Digit
 kind_of-no_digit c e = λ h. grind (arith, nat_tests)
 
 -- after a run that passes p: its rest gives no item, and what follows it is cut as a text of its own

@@ -36,7 +36,7 @@ item_order-by_keys (Number m) (Number n) = refl
 item_order-by_keys x (Letters w) = refl
 item_order-by_keys x y = refl
 
-item_order_total : IsTotalOrder item_order
+pub item_order_total : IsTotalOrder item_order
 item_order_total = subst IsTotalOrder (λ i x y. sym (item_order-by_keys x y) i) (then_total (on_total rank nat_cmp_total) (then_total (on_total word nat_list_cmp_total) (on_total number nat_cmp_total)))
 
 pub version_order_total : IsTotalOrder version_order

@@ -28,7 +28,8 @@ pub fn version_cmp(a: &str, b: &str) -> Ordering
     ensures order { result ≡ version_order a.now b.now }
     ensures equal { (result ≡ Ordering.Equal) ↔ (a.now ≡ b.now) }
 {
-    items_cmp(a.as_bytes(), b.as_bytes()).then_with(|| a.cmp(b))
+    let (left, right) = behind_shared(a.as_bytes(), b.as_bytes());
+    items_cmp(left, right).then_with(|| a.cmp(b))
 }
 
 /// Compares two texts item by item.
@@ -47,6 +48,29 @@ fn items_cmp(a: &[u8], b: &[u8]) -> Ordering
         left = left_rest;
         right = right_rest;
     }
+}
+
+/// What stands behind the last byte, no letter and no digit, up to which both texts are the same:
+/// there an item ends in both, so the rest decides. Versions that are compared are mostly alike.
+fn behind_shared<'a, 'b>(a: &'a [u8], b: &'b [u8]) -> (&'a [u8], &'b [u8])
+    ensures { items_order result.0.now result.1.now ≡ items_order a.now b.now }
+{
+    let (mut left, mut right) = (a, b);
+    let (mut left_rest, mut right_rest) = (a, b);
+    while let [x, left_tail @ ..] = left_rest {
+        match right_rest {
+            [y, right_tail @ ..] if x == y => {
+                left_rest = left_tail;
+                right_rest = right_tail;
+            }
+            _ => break,
+        }
+        if !x.is_ascii_alphanumeric() {
+            left = left_rest;
+            right = right_rest;
+        }
+    }
+    (left, right)
 }
 
 /// The laws of the order, for those who sort by it or keep a map under it. It does nothing: a
