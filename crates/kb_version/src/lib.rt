@@ -50,8 +50,8 @@ fn items_cmp(a: &[u8], b: &[u8]) -> Ordering
     }
 }
 
-/// What stands behind the last byte, no letter and no digit, up to which both texts are the same:
-/// there an item ends in both, so the rest decides. Versions that are compared are mostly alike.
+/// What is left of two texts that begin alike, behind the last shared byte that is neither a letter
+/// nor a digit. There an item ends in both, so the rest decides.
 fn behind_shared<'a, 'b>(a: &'a [u8], b: &'b [u8]) -> (&'a [u8], &'b [u8])
     ensures { items_order result.0.now result.1.now ≡ items_order a.now b.now }
 {

@@ -1,10 +1,9 @@
-//! What the definitions mean, at versions whose order is known from elsewhere.
+//! Versions whose order is known from the rule or from systemd.
 use crate::{version_cmp, version_order_laws};
 use std::cmp::Ordering;
 use std::test::Fail;
 
-/// From the least to the greatest. All but the kernels are the rows of systemd's own test of its
-/// comparison of versions, in its order.
+/// From the least to the greatest. `systemd-analyze compare-versions` puts each row before the next.
 const TABLE: [&str; 30] = [
     "~1",
     "",

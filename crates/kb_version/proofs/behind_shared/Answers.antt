@@ -1,4 +1,4 @@
-use Rattle.std.proofs.Common.{◌≡◌, ◌<◌, ◌++◌, [], length, get_or, false, refl, ◌∙◌, arith, rules}
+use Rattle.std.proofs.Common.{◌≡◌, ◌<◌, [], length, get_or, false, refl, ◌∙◌, arith, rules}
 use Rattle.std.specs.Char.{is_ascii_alphanumeric}
 use Rattle.kb_version.proofs.Shared.{shares-more, items_order-behind}
 use Rattle.kb_version.proofs.behind_shared.Goals as goal

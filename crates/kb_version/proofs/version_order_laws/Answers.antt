@@ -1,7 +1,3 @@
-use Rattle.std.proofs.Common.{◌≡◌, subst}
-use Rattle.std.proofs.lemmas.Cmp.{tied_itself}
-use Rattle.std.specs.declared.cmp.Ordering.TheVariants.{Equal}
-use Rattle.kb_version.specs.Order.{version_order}
 use Rattle.kb_version.specs.OrderLaws.{version_order_total, version_order_exact}
 use Rattle.kb_version.proofs.version_order_laws.Goals as goal
 
