@@ -5,7 +5,7 @@ use Rattle.std.proofs.lemmas.List.Sums.{take_while-cons}
 use Rattle.std.specs.List.{take_while, prefix_len}
 use Rattle.std.specs.Char.{is_ascii_alphabetic, is_ascii_digit, digit_value}
 use Rattle.std.specs.Str.Parse.{digits_value, AllDigits}
-use Rattle.kb_version.specs.Items.{Letters, Number, Kind, Letter, Digit, Skipped, kind_of, begun, items_after, items}
+use Rattle.kb_version.specs.Items.{Letters, Number, Kind, Letter, Digit, Skipped, kind_of, items_at, items_after, items}
 
 kind_of-letter : (c : ℕ) → is_ascii_alphabetic c ≡ true → kind_of c ≡ Letter
 kind_of-letter c e = grind (arith, nat_tests)
@@ -20,11 +20,15 @@ pub kind_of-no_digit : (c : ℕ) → is_ascii_digit c ≡ false → kind_of c �
 kind_of-no_digit c e = λ h. grind (arith, nat_tests)
 
 -- after a run that passes p: its rest gives no item, and what follows it is cut as a text of its own
-module _ (run : Kind) (p : ℕ → Bool) (passing : (c : ℕ) → p c ≡ true → kind_of c ≡ run) (goes_on : (c : ℕ) (rest : List ℕ) → begun run run c rest ≡ []) (ends : (c : ℕ) (rest : List ℕ) → p c ≡ false → begun run (kind_of c) c rest ≡ begun Skipped (kind_of c) c rest) where
+module _
+  (run : Kind) (p : ℕ → Bool)
+  (passing : (c : ℕ) → p c ≡ true → kind_of c ≡ run)
+  (goes_on : (c : ℕ) (rest : List ℕ) → items_at run run c rest ≡ [])
+  (ends : (c : ℕ) (rest : List ℕ) → p c ≡ false → items_at run (kind_of c) c rest ≡ items_at Skipped (kind_of c) c rest) where
   after_more : (c : ℕ) (rest : List ℕ) (b : Bool) → p c ≡ b → items_after run rest ≡ items (drop (prefix_len p rest) rest) → items_after run (c ∷ rest) ≡ items (drop (cond b (1 + prefix_len p rest) 0) (c ∷ rest))
   after_more c rest true e below =
       let one_more : suc (prefix_len p rest) ≡ 1 + prefix_len p rest = omega arith in
-      ap (λ k. begun run k c rest ++ items_after k rest) (passing c e)
+      ap (λ k. items_at run k c rest ++ items_after k rest) (passing c e)
       ∙ ap (λ begins. begins ++ items_after run rest) (goes_on c rest)
       ∙ below ∙ ap (λ n. items (drop n (c ∷ rest))) one_more
   after_more c rest false e below = ap (λ begins. begins ++ items_after (kind_of c) rest) (ends c rest e)
@@ -34,18 +38,18 @@ module _ (run : Kind) (p : ℕ → Bool) (passing : (c : ℕ) → p c ≡ true �
   items_after-run (c ∷ rest) = after_more c rest (p c) refl (items_after-run rest)
 
   -- a text that begins with such a run gives what begins there, and the items of what follows the run
-  items-run : (c : ℕ) (rest : List ℕ) → p c ≡ true → items (c ∷ rest) ≡ begun Skipped run c rest ++ items (drop (prefix_len p (c ∷ rest)) (c ∷ rest))
+  items-run : (c : ℕ) (rest : List ℕ) → p c ≡ true → items (c ∷ rest) ≡ items_at Skipped run c rest ++ items (drop (prefix_len p (c ∷ rest)) (c ∷ rest))
   items-run c rest e =
       let one_more : suc (prefix_len p rest) ≡ 1 + prefix_len p rest = omega arith in
-      ap (λ k. begun Skipped k c rest ++ items_after k rest) (passing c e)
-      ∙ ap (λ behind. begun Skipped run c rest ++ behind) (items_after-run rest ∙ ap (λ n. items (drop n (c ∷ rest))) one_more)
-      ∙ ap (λ b. begun Skipped run c rest ++ items (drop (cond b (1 + prefix_len p rest) 0) (c ∷ rest))) (sym e)
+      ap (λ k. items_at Skipped k c rest ++ items_after k rest) (passing c e)
+      ∙ ap (λ behind. items_at Skipped run c rest ++ behind) (items_after-run rest ∙ ap (λ n. items (drop n (c ∷ rest))) one_more)
+      ∙ ap (λ b. items_at Skipped run c rest ++ items (drop (cond b (1 + prefix_len p rest) 0) (c ∷ rest))) (sym e)
 
-letters_end : (k : Kind) (c : ℕ) (rest : List ℕ) → k ≢ Letter → begun Letter k c rest ≡ begun Skipped k c rest
+letters_end : (k : Kind) (c : ℕ) (rest : List ℕ) → k ≢ Letter → items_at Letter k c rest ≡ items_at Skipped k c rest
 letters_end Letter c rest other = absurd (other refl)
 letters_end k c rest other = refl
 
-digits_end : (k : Kind) (c : ℕ) (rest : List ℕ) → k ≢ Digit → begun Digit k c rest ≡ begun Skipped k c rest
+digits_end : (k : Kind) (c : ℕ) (rest : List ℕ) → k ≢ Digit → items_at Digit k c rest ≡ items_at Skipped k c rest
 digits_end Digit c rest other = absurd (other refl)
 digits_end k c rest other = refl
 

@@ -33,18 +33,18 @@ kind_of c =
 
 -- the items that begin at a byte c, one or none: `before` is the kind of the byte before it, then its own kind, and `rest` what follows it.
 -- A run begins at a byte that doesn't go on with the run before it, and it goes as far as it can
-abbrev pub begun : Kind → Kind → ℕ → List ℕ → List Item
-begun Letter Letter c rest = []
-begun before Letter c rest = Letters (c ∷ take_while is_ascii_alphabetic rest) ∷ []
-begun Digit Digit c rest = []
-begun before Digit c rest = Number (digits_value 10 (c ∷ take_while is_ascii_digit rest)) ∷ []
-begun before (Sign item) c rest = item ∷ []
-begun before Skipped c rest = []
+abbrev pub items_at : Kind → Kind → ℕ → List ℕ → List Item
+items_at Letter Letter c rest = []
+items_at before Letter c rest = Letters (c ∷ take_while is_ascii_alphabetic rest) ∷ []
+items_at Digit Digit c rest = []
+items_at before Digit c rest = Number (digits_value 10 (c ∷ take_while is_ascii_digit rest)) ∷ []
+items_at before (Sign item) c rest = item ∷ []
+items_at before Skipped c rest = []
 
 -- the items of a text that follows a byte of this kind, the end among them
 abbrev pub items_after : Kind → List ℕ → List Item
 items_after before [] = End ∷ []
-items_after before (c ∷ rest) = begun before (kind_of c) c rest ++ items_after (kind_of c) rest
+items_after before (c ∷ rest) = items_at before (kind_of c) c rest ++ items_after (kind_of c) rest
 
 -- the items of a whole text, whose first byte begins an item as it would after a skipped one
 abbrev pub items : List ℕ → List Item

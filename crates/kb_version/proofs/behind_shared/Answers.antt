@@ -1,6 +1,6 @@
 use Rattle.std.proofs.Common.{◌≡◌, ◌<◌, [], length, get_or, false, refl, ◌∙◌, arith, rules}
 use Rattle.std.specs.Char.{is_ascii_alphanumeric}
-use Rattle.kb_version.proofs.Shared.{shares-more, items_order-behind}
+use Rattle.kb_version.proofs.Shared.{shares-more, items_order-tail_of}
 use Rattle.kb_version.proofs.behind_shared.Goals as goal
 
 pub loop-left_rest-preserved : goal.loop-left_rest-preserved
@@ -22,6 +22,6 @@ loop-left_rest-preserved-then-not-is_ascii_alphanumeric c =
     let same : get_or step.left_rest.now 0 0 ≡ get_or step.right_rest.now 0 0 = omega arith in
     let apart : is_ascii_alphanumeric (get_or step.left_rest.now 0 0) ≡ false = search rules in
     record {
-      same = items_order-behind step.left.now step.right.now step.left_rest.now step.right_rest.now step.invariant.shared some_left some_right same apart ∙ step.invariant.same;
+      same = items_order-tail_of step.left.now step.right.now step.left_rest.now step.right_rest.now step.invariant.shared some_left some_right same apart ∙ step.invariant.same;
       shared = record { run = []; left_is = refl; right_is = refl };
     }

@@ -14,8 +14,8 @@ returns-in-48-to-57-clause-items c =
     let first : is_ascii_digit (get_or text 0 0) ≡ true = grind (arith, nat_tests) in
     cc (items-digits text some first)
 
-pub returns-in-48-to-57-clause-numeric : goal.returns-in-48-to-57-clause-numeric
-returns-in-48-to-57-clause-numeric c =
+pub returns-in-48-to-57-clause-formed : goal.returns-in-48-to-57-clause-formed
+returns-in-48-to-57-clause-formed c =
     let text = c.loop-rest.rest.now in
     let is : take_while is_ascii_digit text ≡ c.split_at.result.0.now = cc in
     subst (AllDigits 10) is (AllDigits-take_while text)
