@@ -21,10 +21,10 @@ kind_of-no_digit c e = λ h. grind (arith, nat_tests)
 
 -- after a run that passes p: its rest gives no item, and what follows it is cut as a text of its own
 module _
-  (run : Kind) (p : ℕ → Bool)
-  (passing : (c : ℕ) → p c ≡ true → kind_of c ≡ run)
-  (goes_on : (c : ℕ) (rest : List ℕ) → items_at run run c rest ≡ [])
-  (ends : (c : ℕ) (rest : List ℕ) → p c ≡ false → items_at run (kind_of c) c rest ≡ items_at Skipped (kind_of c) c rest) where
+    (run : Kind) (p : ℕ → Bool)
+    (passing : (c : ℕ) → p c ≡ true → kind_of c ≡ run)
+    (goes_on : (c : ℕ) (rest : List ℕ) → items_at run run c rest ≡ [])
+    (ends : (c : ℕ) (rest : List ℕ) → p c ≡ false → items_at run (kind_of c) c rest ≡ items_at Skipped (kind_of c) c rest) where
   after_more : (c : ℕ) (rest : List ℕ) (b : Bool) → p c ≡ b → items_after run rest ≡ items (drop (prefix_len p rest) rest) → items_after run (c ∷ rest) ≡ items (drop (cond b (1 + prefix_len p rest) 0) (c ∷ rest))
   after_more c rest true e below =
       let one_more : suc (prefix_len p rest) ≡ 1 + prefix_len p rest = omega arith in

@@ -90,9 +90,9 @@ first_and_tail (c ∷ rest) some = ap (λ text. c ∷ text) (sym (ap (λ n. take
 
 -- where both rests go on with one byte
 module _
-  (left right left_rest right_rest : List ℕ) (shares : Shares left right left_rest right_rest)
-  (some_left : 0 < length left_rest) (some_right : 0 < length right_rest)
-  (same : get_or left_rest 0 0 ≡ get_or right_rest 0 0) where
+    (left right left_rest right_rest : List ℕ) (shares : Shares left right left_rest right_rest)
+    (some_left : 0 < length left_rest) (some_right : 0 < length right_rest)
+    (same : get_or left_rest 0 0 ≡ get_or right_rest 0 0) where
   left_cut : left ≡ shares.run ++ get_or left_rest 0 0 ∷ tail_of left_rest
   left_cut = shares.left_is ∙ ap (λ rest. shares.run ++ rest) (first_and_tail left_rest some_left)
 

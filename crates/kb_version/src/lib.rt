@@ -4,7 +4,7 @@
 //! loader specification use, with a last comparison by bytes, so that only equal texts are equal.
 #![tactic(auto)]
 
-ghost use Rattle.std.specs.Prelude.{◌≡◌, ℕ, ◌↔◌, List};
+ghost use Rattle.std.specs.Prelude.{◌≡◌, ℕ, ◌≤◌, ◌↔◌, List, length};
 ghost use Rattle.std.specs.Cmp.{IsTotalOrder};
 ghost use Rattle.std.specs.Ordering.{ordering_reverse};
 ghost use Rattle.std.proofs.lemmas.Map.Lookups.{CmpEqualImpliesEq};
@@ -12,7 +12,7 @@ ghost use Rattle.kb_version.specs.Order.{version_order, items_order};
 
 mod piece;
 
-use piece::{next_piece, piece_cmp};
+use piece::{Piece, next_piece, piece_cmp};
 use std::cmp::Ordering;
 
 /// Compares two versions.
@@ -28,16 +28,14 @@ pub fn version_cmp(a: &str, b: &str) -> Ordering
     ensures order { result ≡ version_order a.now b.now }
     ensures equal { (result ≡ Ordering.Equal) ↔ (a.now ≡ b.now) }
 {
-    let (left, right) = behind_shared(a.as_bytes(), b.as_bytes());
-    items_cmp(left, right).then_with(|| a.cmp(b))
+    items_cmp(a.as_bytes(), b.as_bytes()).then_with(|| a.cmp(b))
 }
 
 /// Compares two texts item by item.
 fn items_cmp(a: &[u8], b: &[u8]) -> Ordering
     ensures { result ≡ items_order a.now b.now }
 {
-    let mut left = a;
-    let mut right = b;
+    let (mut left, mut right) = behind_shared(a, b);
     'items: loop {
         let (x, left_rest) = next_piece(left);
         let (y, right_rest) = next_piece(right);
@@ -45,15 +43,18 @@ fn items_cmp(a: &[u8], b: &[u8]) -> Ordering
         if order != Ordering::Equal || x.is_end() {
             return order;
         }
-        left = left_rest;
-        right = right_rest;
+        (left, right) = match x {
+            Piece::Letters(_) | Piece::Digits(_) => (left_rest, right_rest),
+            _ => behind_shared(left_rest, right_rest),
+        };
     }
 }
 
 /// What is left of two texts that begin alike, behind the last shared byte that is neither a letter
 /// nor a digit. There an item ends in both, so the rest decides.
 fn behind_shared<'a, 'b>(a: &'a [u8], b: &'b [u8]) -> (&'a [u8], &'b [u8])
-    ensures { items_order result.0.now result.1.now ≡ items_order a.now b.now }
+    ensures same { items_order result.0.now result.1.now ≡ items_order a.now b.now }
+    ensures shorter { length result.0.now ≤ length a.now }
 {
     let (mut left, mut right) = (a, b);
     let (mut left_rest, mut right_rest) = (a, b);

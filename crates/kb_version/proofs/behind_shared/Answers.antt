@@ -1,4 +1,4 @@
-use Rattle.std.proofs.Common.{◌≡◌, ◌<◌, [], length, get_or, false, refl, ◌∙◌, arith, rules}
+use Rattle.std.proofs.Common.{◌≡◌, ℕ, length-take, length-drop, ◌<◌, [], length, get_or, false, refl, ◌∙◌, arith, rules}
 use Rattle.std.specs.Char.{is_ascii_alphanumeric}
 use Rattle.kb_version.proofs.Shared.{shares-more, items_order-tail_of}
 use Rattle.kb_version.proofs.behind_shared.Goals as goal
@@ -12,6 +12,8 @@ loop-left_rest-preserved c =
     record {
       same = step.invariant.same;
       shared = shares-more step.left.now step.right.now step.left_rest.now step.right_rest.now step.invariant.shared some_left some_right same;
+      shorter = step.invariant.shorter;
+      within = omega (arith, length-take {A = ℕ}, length-drop {A = ℕ});
     }
 
 pub loop-left_rest-preserved-then-not-is_ascii_alphanumeric : goal.loop-left_rest-preserved-then-not-is_ascii_alphanumeric
@@ -24,4 +26,6 @@ loop-left_rest-preserved-then-not-is_ascii_alphanumeric c =
     record {
       same = items_order-tail_of step.left.now step.right.now step.left_rest.now step.right_rest.now step.invariant.shared some_left some_right same apart ∙ step.invariant.same;
       shared = record { run = []; left_is = refl; right_is = refl };
+      shorter = omega (arith, length-take {A = ℕ}, length-drop {A = ℕ});
+      within = omega arith;
     }
