@@ -43,6 +43,7 @@ fn items_cmp(a: &[u8], b: &[u8]) -> Ordering
         if order != Ordering::Equal || x.is_end() {
             return order;
         }
+        // Only behind a sign: no stretch without one is gone over anew for each of its runs.
         (left, right) = match x {
             Piece::Letters(_) | Piece::Digits(_) => (left_rest, right_rest),
             _ => behind_shared(left_rest, right_rest),
