@@ -11,6 +11,7 @@ use Rattle.std.specs.Cmp.Lexicographic.{slice_cmp}
 use Rattle.std.specs.Char.{digit_value}
 use Rattle.std.specs.Str.Parse.{AllDigits, digits_value, digits_value_after}
 use Rattle.std.proofs.lemmas.Cmp.{by_ranked, tied_itself, nat_cmp_total}
+use Rattle.kb_version.specs.declared.piece.TheConstants.{ZERO}
 use Rattle.kb_version.specs.Digits.{without_zeros}
 
 nat_cmp-Less : (m n : ℕ) → m < n → nat_cmp m n ≡ Less
@@ -60,7 +61,7 @@ slice_cmp-digits n (x ∷ xs) (y ∷ ys) left right same =
 -- the first digit, if there is one, is no zero
 abbrev pub IsSignificant : List ℕ → Type 0
 IsSignificant [] = ⊤
-IsSignificant (d ∷ ds) = d ≢ 48
+IsSignificant (d ∷ ds) = d ≢ ZERO
 
 -- a number with fewer significant digits is less
 digits_value-shorter : (xs ys : List ℕ) → AllDigits 10 xs → AllDigits 10 ys → IsSignificant ys → length xs < length ys → digits_value 10 xs < digits_value 10 ys
@@ -69,7 +70,7 @@ digits_value-shorter xs (y ∷ ys) left right first short =
     let is_y = digit-is y right.0 in
     digits_value-below 0 (0 * 10 + digit_value y) xs ys left (omega arith) (omega arith)
 
--- by the count of digits and then by the digits: what that makes of two lists with counts that compare so
+-- without leading zeros, the count of digits and then the digits tell which number is less
 by_length : (xs ys : List ℕ) → AllDigits 10 xs → AllDigits 10 ys → IsSignificant xs → IsSignificant ys → ordering_then (nat_cmp (length xs) (length ys)) (slice_cmp nat_cmp xs ys) ≡ nat_cmp (digits_value 10 xs) (digits_value 10 ys)
 by_length xs ys left right first_x first_y =
     by_ranked (length xs < length ys) (length xs ≡ length ys) (length ys < length xs) (nat_cmp (length xs) (length ys)) (ranks (length xs) (length ys))

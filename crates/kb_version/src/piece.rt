@@ -20,6 +20,7 @@ pub const CARET: u8 = b'^';
 
 pub const DOT: u8 = b'.';
 
+/// Doesn't count at the head of a number.
 pub const ZERO: u8 = b'0';
 
 /// An item of a version, with the bytes of a run as they stand in the text.
