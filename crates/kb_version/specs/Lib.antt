@@ -1,0 +1,5 @@
+pub mod Items
+pub mod Order
+pub mod OrderLaws
+pub mod Piece
+pub mod Digits
