@@ -34,7 +34,7 @@ looks old new result plan tree roots later faults was_steady is_steady due = rec
   roots = roots;
   cause = record {
     later = later;
-    failed = λ e. rose (is_due plan) old.faults new.faults faults (due e);
+    rose = λ e. rose (is_due plan) old.faults new.faults faults (due e);
     steady = λ steady. is_steady ∙ over-after plan (sym was_steady ∙ steady);
     never = λ steady e. over-due plan (sym was_steady ∙ steady) (due e);
   };

@@ -40,14 +40,15 @@ are_public roots apart key good =
       package_directory = in_dkms roots apart (key.module ∷ []) plain refl;
       version = at_path roots _ _ (append_assoc roots.dkms (key.module ∷ []) (key.version ∷ [])) (in_dkms roots apart (key.module ∷ key.version ∷ []) plain refl);
       link = at_path roots _ _ (append_assoc (roots.dkms ++ key.module ∷ []) (key.version ∷ []) (codes "source" ∷ []) ∙ append_assoc roots.dkms (key.module ∷ []) (key.version ∷ codes "source" ∷ []))
-        (in_dkms roots apart (key.module ∷ key.version ∷ codes "source" ∷ []) plain (no_scratch (is_word key.module && is_version key.version)));
+          (in_dkms roots apart (key.module ∷ key.version ∷ codes "source" ∷ []) plain (no_scratch (is_word key.module && is_version key.version)));
       source = in_src roots apart ((key.module ++ codes "-" ++ key.version) ∷ []) begins;
       conf = at_path roots _ _ (append_assoc roots.src ((key.module ++ codes "-" ++ key.version) ∷ []) (codes "dkms.conf" ∷ []))
-        (in_src roots apart ((key.module ++ codes "-" ++ key.version) ∷ codes "dkms.conf" ∷ []) begins);
+          (in_src roots apart ((key.module ++ codes "-" ++ key.version) ∷ codes "dkms.conf" ∷ []) begins);
     }
   where
     begins_on : (dash version : List ℕ) → begins_alphanumeric key.module ≡ true → begins_alphanumeric (key.module ++ dash ++ version) ≡ true
     begins_on dash version plain = begins-append (key.module ++ dash) version (begins-append key.module dash plain)
+
     no_scratch : (b : Bool) → (b && false) ≡ false
     no_scratch true = refl
     no_scratch false = refl
@@ -64,7 +65,7 @@ unfolding add_refusal
 refusal_shown roots apart key good tree =
     let open_to = are_public roots apart key good in
     same_refusal key (places_of roots key) tree (public_tree roots tree) (sym (shown roots tree _ open_to.link)) (sym (shown roots tree _ open_to.source))
-      (sym (shown roots tree _ open_to.conf)) (sym (shown roots tree _ open_to.package_directory)) (sym (shown roots tree _ open_to.version))
+    (sym (shown roots tree _ open_to.conf)) (sym (shown roots tree _ open_to.package_directory)) (sym (shown roots tree _ open_to.version))
 
 -- ---- the step
 
@@ -94,7 +95,7 @@ step_shown roots apart key good tree =
     let places = places_of roots key in
     public_tree-with_node roots _ places.link _ open_to.link
     ∙ ap (with_node places.link (node.Link places.text)) (public-with_directory roots places.version _ open_to.version
-      ∙ ap (with_directory places.version) (public-with_directory roots places.module tree open_to.package_directory))
+    ∙ ap (with_directory places.version) (public-with_directory roots places.module tree open_to.package_directory))
 
 pub step_keeps_foreign : (roots : Roots) → AreApart roots → (key : Key) → is_key key ≡ true → (tree : Tree)
     → foreign_tree roots (place_step (places_of roots key) tree) ≡ foreign_tree roots tree

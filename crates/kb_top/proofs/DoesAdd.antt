@@ -89,7 +89,7 @@ pub add_ends : (roots : Roots) → AreApart roots → (key : Key) → is_key key
     → Does roots (add roots key) old new before after result
 add_ends roots apart key good places are old mid new before after result d t out err =
     does_passed roots (place_refusal key places) (add_refusal roots key) (transaction (add_step roots key) (added_line key)) old mid new before after result
-      (read_at roots apart key good places are) d
-      (does_transaction roots (place_step places) (add_step roots key) (added_line key) mid new before after result
-        (λ tree. ap (λ p. public_tree roots (place_step p tree)) are ∙ step_shown roots apart key good tree)
-        (λ tree. ap (λ p. foreign_tree roots (place_step p tree)) are ∙ step_keeps_foreign roots apart key good tree) t out err)
+    (read_at roots apart key good places are) d
+    (does_transaction roots (place_step places) (add_step roots key) (added_line key) mid new before after result
+    (λ tree. ap (λ p. public_tree roots (place_step p tree)) are ∙ step_shown roots apart key good tree)
+    (λ tree. ap (λ p. foreign_tree roots (place_step p tree)) are ∙ step_keeps_foreign roots apart key good tree) t out err)

@@ -24,10 +24,10 @@ link_ready places nested tree can =
     let above = other_than places.version places.module nested.version nested.version_is in
     let here = other_than places.link places.version nested.link nested.link_is in
     let two_up : places.link ≢ places.module = λ same.
-          grandchild-other places.module nested.version nested.link (sym (nested.link_is ∙ ap (λ p. child p nested.link) nested.version_is) ∙ same) in
+    grandchild-other places.module nested.version nested.link (sym (nested.link_is ∙ ap (λ p. child p nested.link) nested.version_is) ∙ same) in
     let free = blocking-same places.version once tree (directory-apart places.module tree places.version above) ∙ can.version_free in
     record {
       free = directory-apart places.version once places.link here ∙ directory-apart places.module tree places.link two_up ∙ can.link_free;
       in_directory = ap (λ p. is_dir (node_at (with_directory places.version once) p)) (parent_of_child places.link places.version nested.link nested.link_is)
-        ∙ directory-here places.version once free;
+          ∙ directory-here places.version once free;
     }

@@ -78,7 +78,7 @@ ends_as roots store outcome old new report (Ok u) result came told =
     finished roots store outcome None report old new result came.end came.tree came.out (came.err ∙ ap (with_line outcome.err) (sym came.end)) told
 ends_as roots store outcome old new report (Err (Refused why)) result came told =
     finished roots store outcome (Some why) (with_message report why) old new result came.end came.tree came.out
-      (ap (λ t. t ++ message_of why) came.err ∙ ap (with_line outcome.err) (sym came.end)) told
+    (ap (λ t. t ++ message_of why) came.err ∙ ap (with_line outcome.err) (sym came.end)) told
 ends_as roots store outcome old new report (Err Fault) result came told = subst (λ e. EndsAs roots store outcome old new e) (sym told.0) tt
 ends_as roots store outcome old new report (Err NoMemory) result came told =
     let given_up : IsGivenUp outcome old new = record { out = inl told.1; err = told.2 } in
@@ -145,17 +145,18 @@ runs roots words old_world new_world old new report answer result s t =
     let before : Outside = record { world = old_world; out = old.out; err = old.err } in
     let after : Outside = record { world = new_world; out = new.out; err = new.err } in
     let ends : (tree : Tree) → old_world.tree ≡ Some tree → EndsAs roots (public_tree roots tree) (outcome_of roots words tree) before after result =
-          λ tree told. ends_as roots (public_tree roots tree) (outcome_of roots words tree) before after report answer result (s.answers tree told) t.ends in
+    λ tree told. ends_as roots (public_tree roots tree) (outcome_of roots words tree) before after report answer result (s.answers tree told) t.ends in
     record {
       ends = ends;
       refused = λ why is tree told now told_now.
-        refused_same roots words tree now before after why (subst (λ r. EndsAs roots (public_tree roots tree) (outcome_of roots words tree) before after r) is (ends tree told)) told_now;
+          refused_same roots words tree now before after why (subst (λ r. EndsAs roots (public_tree roots tree) (outcome_of roots words tree) before after r) is (ends tree told)) told_now;
       damaged = s.damaged;
       fault = λ is. let f = tells_fault report old new result answer t.ends is in record { rose = s.cause.rose f.0; out = f.1; err = f.2 };
       sink_fault = λ is. (tells_sink report old new result answer t.ends is).rose;
       complete = λ steady. (
         tells_steady report old new result answer (λ failed. failed.unsteady steady.out steady.err) (λ is. s.cause.never steady.world is) t.ends,
-        record { world = s.cause.steady steady.world; out = t.go_on.out_steady steady.out; err = t.go_on.err_steady steady.err });
+        record { world = s.cause.steady steady.world; out = t.go_on.out_steady steady.out; err = t.go_on.err_steady steady.err },
+      );
       no_setting = tells_no_setting report old new result answer t.ends;
       counts = record { world = s.cause.later; out = t.go_on.out_later; err = t.go_on.err_later };
       same_roots = s.same_roots;
@@ -167,8 +168,8 @@ pub runs_from_empty : (roots : Roots) (words : List Word) (old_world new_world :
     → Runs roots words (record { world = old_world; out = old.out; err = old.err }) (record { world = new_world; out = new.out; err = new.err }) result
 runs_from_empty roots words old_world new_world old new out err report answer result no_out no_err s t =
     runs roots words old_world new_world old new report answer result
-      (subst (λ e. Serves roots words old_world new_world (record { out = []; err = e }) report answer) no_err
-        (subst (λ o. Serves roots words old_world new_world (record { out = o; err = err }) report answer) no_out s)) t
+    (subst (λ e. Serves roots words old_world new_world (record { out = []; err = e }) report answer) no_err
+    (subst (λ o. Serves roots words old_world new_world (record { out = o; err = err }) report answer) no_out s)) t
 
 -- want of memory before anything was done
 pub runs_wanting : (roots : Roots) (words : List Word) (world : State) (out old_err new_err : SinkState) → SaysFront no_memory_line old_err new_err

@@ -99,8 +99,8 @@ pub serves_damaged : (roots : Roots) (words : List Word) (old mid : State) (repo
     → Serves roots words old mid report report (Err stop)
 serves_damaged roots words old mid report (Refused why) d = record {
   answers = λ tree told.
-    let P : Outcome → Type 0 = λ outcome. CameAbout roots (public_tree roots tree) outcome (Some why) mid.tree report report in
-    subst P (sym (outcome_damaged roots words tree why (d.agrees tree told))) (came_at_once roots why tree mid.tree report (d.tree ∙ told));
+      let P : Outcome → Type 0 = λ outcome. CameAbout roots (public_tree roots tree) outcome (Some why) mid.tree report report in
+      subst P (sym (outcome_damaged roots words tree why (d.agrees tree told))) (came_at_once roots why tree mid.tree report (d.tree ∙ told));
   damaged = λ tree told stands. d.tree;
   same_roots = d.roots;
   cause = d.cause;
@@ -113,9 +113,9 @@ pub serves_unread : (roots : Roots) (words : List Word) (old mid : State) (repor
     → IsRead {T = Command} (Err stop) (reading words) → Serves roots words old mid report report (Err stop)
 serves_unread roots words old mid report (Refused why) d read = record {
   answers = λ tree told.
-    let P : Outcome → Type 0 = λ outcome. CameAbout roots (public_tree roots tree) outcome (Some why) mid.tree report report in
-    let is = outcome_undamaged roots words tree (d.agrees tree told) ∙ ap (λ r. perform_read roots r (public_tree roots tree) (foreign_tree roots tree)) read in
-    subst P (sym is) (came_at_once roots why tree mid.tree report (d.tree ∙ told));
+      let P : Outcome → Type 0 = λ outcome. CameAbout roots (public_tree roots tree) outcome (Some why) mid.tree report report in
+      let is = outcome_undamaged roots words tree (d.agrees tree told) ∙ ap (λ r. perform_read roots r (public_tree roots tree) (foreign_tree roots tree)) read in
+      subst P (sym is) (came_at_once roots why tree mid.tree report (d.tree ∙ told));
   damaged = λ tree told stands. absurd (intent_absent roots tree (d.agrees tree told) stands);
   same_roots = d.roots;
   cause = cause_other {T = Unit {0}} {U = Unit {0}} old mid (Ok tt) (Err (Refused why)) d.cause (λ failed. let impossible : Err (Refused why) ≡ Err Fault = failed in cc);
@@ -134,9 +134,9 @@ pub serves_done : (roots : Roots) (words : List Word) (it : Command) (old mid ne
     → Serves roots words old new before after result
 serves_done roots words it old mid new before after result d read e = record {
   answers = λ tree told.
-    let P : Outcome → Type 0 = λ outcome. Answers roots (public_tree roots tree) outcome result new.tree before after in
-    let is = outcome_undamaged roots words tree (d.agrees tree told) ∙ ap (λ r. perform_read roots r (public_tree roots tree) (foreign_tree roots tree)) read in
-    subst P (sym is) (e.answers tree (d.tree ∙ told));
+      let P : Outcome → Type 0 = λ outcome. Answers roots (public_tree roots tree) outcome result new.tree before after in
+      let is = outcome_undamaged roots words tree (d.agrees tree told) ∙ ap (λ r. perform_read roots r (public_tree roots tree) (foreign_tree roots tree)) read in
+      subst P (sym is) (e.answers tree (d.tree ∙ told));
   damaged = λ tree told stands. absurd (intent_absent roots tree (d.agrees tree told) stands);
   same_roots = e.same_roots ∙ d.roots;
   cause = cause_then Fault old mid new (Ok tt) result d.cause e.cause;

@@ -34,7 +34,7 @@ perform_stays : (roots : Roots) (it : Command) (store foreign : Tree) → IsAllO
 perform_stays roots command.Help store foreign = λ why e. refl
 perform_stays roots (command.Add key) store foreign =
     unless_stays (no_roots_of_add roots) (add roots key) store foreign
-      (unless_stays (add_refusal roots key) (transaction (add_step roots key) (added_line key)) store foreign (done_stays (add_step roots key) (added_line key) store foreign))
+    (unless_stays (add_refusal roots key) (transaction (add_step roots key) (added_line key)) store foreign (done_stays (add_step roots key) (added_line key) store foreign))
 
 read_stays : (roots : Roots) (read : Result Command Refusal) (store foreign : Tree) → IsAllOrNothing (perform_read roots read store foreign)
 read_stays roots (Ok it) store foreign = perform_stays roots it store foreign

@@ -50,10 +50,14 @@ fn require_unadded<W: World>(
             if world.read_link(alloc, link)?.as_str() == text {
                 Err(Stop::Refused(Refusal::AlreadyAdded { key: copy_of(key)? }))
             } else {
-                Err(Stop::Refused(Refusal::Damaged { path: link.clone()? }))
+                Err(Stop::Refused(Refusal::Damaged {
+                    path: link.clone()?,
+                }))
             }
         }
-        _ => Err(Stop::Refused(Refusal::Damaged { path: link.clone()? })),
+        _ => Err(Stop::Refused(Refusal::Damaged {
+            path: link.clone()?,
+        })),
     }
 }
 

@@ -2,11 +2,13 @@
 #![tactic(auto)]
 
 mod add;
-mod end;
 mod call;
+mod end;
 mod serve;
 mod tell;
+#[cfg(test)]
+mod tests;
 mod words;
 
-pub use end::End;
 pub use call::{Setting, run, start};
+pub use end::End;

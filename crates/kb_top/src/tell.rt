@@ -26,11 +26,7 @@ pub fn write_last<S: Sink>(sink: &mut S, line: &str)
 }
 
 // Writes both texts, standard output first.
-fn deliver<O: Sink, E: Sink>(
-    report: &Report,
-    out: &mut O,
-    err: &mut E,
-) -> Result<(), SinkError>
+fn deliver<O: Sink, E: Sink>(report: &Report, out: &mut O, err: &mut E) -> Result<(), SinkError>
     ensures { Delivers report.now (record { out = O.state out.old; err = E.state err.old })
         (record { out = O.state out.new; err = E.state err.new }) result }
 {
@@ -85,11 +81,7 @@ pub fn tell<O: Sink, E: Sink>(
     }
 }
 
-fn push_message(
-    alloc: Global,
-    report: &mut Report,
-    refusal: &Refusal,
-) -> Result<(), AllocError>
+fn push_message(alloc: Global, report: &mut Report, refusal: &Refusal) -> Result<(), AllocError>
     ensures { OnOk result (report.new ≡ with_message report.old refusal.now) }
 {
     let line = message(alloc, refusal)?;

@@ -117,10 +117,14 @@ fn require_good_names(command: &Command) -> Result<(), Stop>
 {
     if let Command::Add { key } = command {
         if !is_word(key.module.as_str()) {
-            return Err(Stop::Refused(Refusal::BadName { name: key.module.clone()? }));
+            return Err(Stop::Refused(Refusal::BadName {
+                name: key.module.clone()?,
+            }));
         }
         if !is_version(key.version.as_str()) {
-            return Err(Stop::Refused(Refusal::BadName { name: key.version.clone()? }));
+            return Err(Stop::Refused(Refusal::BadName {
+                name: key.version.clone()?,
+            }));
         }
     }
     Ok(())
@@ -133,7 +137,9 @@ pub fn read_words(alloc: Global, words: &[Text]) -> Result<Command, Stop>
     ensures { IsRead result (spec.reading words.now) }
 {
     let Some(command) = command_of(alloc, words)? else {
-        return Err(Stop::Refused(Refusal::Usage { place: known_words(words) + 1 }));
+        return Err(Stop::Refused(Refusal::Usage {
+            place: known_words(words) + 1,
+        }));
     };
     require_good_names(&command)?;
     Ok(command)

@@ -11,7 +11,7 @@ pub returns-in_err-require_addable : goal.returns-in_err-require_addable
 returns-in_err-require_addable g c =
     let p = err_from_is_err_and c.from_residual-in_err-require_addable.result c.from_residual-in_err-require_addable.ensures.1 in
     rw (p.1, p.2) (add_refused c.args.roots.now c.requires.apart c.args.key.now c.requires.named c.in_ok-places.places c.in_ok-places.ensures _ _ c.args.report.now
-      c.in_err-require_addable.field-0.0 c.in_err-require_addable.ensures)
+    c.in_err-require_addable.field-0.0 c.in_err-require_addable.ensures)
 
 pub make_link-requires-clause-free : goal.make_link-requires-clause-free
 make_link-requires-clause-free g c now told =

@@ -1,0 +1,392 @@
+// The answers to words, over worlds in memory: exit status, standard output, standard error and the tree.
+
+use crate::{Setting, start};
+use kb_memory::{MemorySink, MemoryWorld};
+use kb_world::{Bytes, Node, Path, Roots, Text, is_name};
+use std::alloc::{AllocError, Global};
+use std::process::Abort;
+use std::str;
+use std::test::Fail;
+
+// What stands somewhere before the command: its directory, its name and what it is.
+enum What {
+    Dir,
+    File,
+    Link(&'static str),
+}
+
+struct Entry(&'static str, &'static str, What);
+
+const PLAIN: [Entry; 8] = [
+    Entry("/", "var", What::Dir),
+    Entry("/var", "lib", What::Dir),
+    Entry("/var/lib", "dkms", What::Dir),
+    Entry("/", "usr", What::Dir),
+    Entry("/usr", "src", What::Dir),
+    Entry("/usr/src", "hello-1.0", What::Dir),
+    Entry("/usr/src/hello-1.0", "dkms.conf", What::File),
+    Entry("/usr/src/hello-1.0", "hello.c", What::File),
+];
+
+const ADD_HELLO: [&str; 3] = ["dkms", "add", "hello/1.0"];
+
+const LINK: &str = "/var/lib/dkms/hello/1.0/source";
+
+fn node_of(alloc: Global, what: &What) -> Result<Node, AllocError> {
+    match what {
+        What::Dir => Ok(Node::Dir),
+        What::File => Ok(Node::File {
+            bytes: Bytes::of(alloc, b"text\n")?,
+            exec: false,
+        }),
+        What::Link(text) => Ok(Node::Link {
+            text: Text::of(alloc, text)?,
+        }),
+    }
+}
+
+// Puts a node into a directory where nothing of that name stands. It tells whether it could.
+fn put(
+    alloc: Global,
+    world: &mut MemoryWorld,
+    directory: &Path,
+    name: &str,
+    node: Node,
+) -> Result<bool, AllocError> {
+    if !is_name(name) {
+        return Ok(false);
+    }
+    let path = directory.child(alloc, name)?;
+    match (world.node(directory), world.node(&path)) {
+        (Some(Node::Dir), None) => {
+            world.place(alloc, &path, Some(node))?;
+            Ok(true)
+        }
+        _ => Ok(false),
+    }
+}
+
+fn put_all(
+    rt: &impl Abort,
+    alloc: Global,
+    world: &mut MemoryWorld,
+    entries: &[Entry],
+) -> Result<(), Fail> {
+    for Entry(directory, name, what) in entries {
+        let node = node_of(alloc, what)?;
+        let parent = Path::parse(alloc, directory)?;
+        let done = put(alloc, world, &parent, name, node)?;
+        assert!(rt; done, "can't place {directory}/{name}");
+    }
+    Ok(())
+}
+
+fn plain_world(rt: &impl Abort, alloc: Global) -> Result<MemoryWorld, Fail> {
+    let mut world = MemoryWorld::new(alloc, Roots::under(alloc, &Path::root(alloc))?)?;
+    put_all(rt, alloc, &mut world, &PLAIN)?;
+    Ok(world)
+}
+
+// How a command ended: its status, and what went to standard output and to standard error.
+#[derive(Debug, Drop, PartialEq)]
+struct Answer {
+    status: u8,
+    out: String,
+    err: String,
+}
+
+fn words_of(alloc: Global, words: &[&str]) -> Result<Vec<Text>, AllocError> {
+    let mut made = Vec::new(alloc);
+    for word in words {
+        made.push(Text::of(alloc, word)?)?;
+    }
+    Ok(made)
+}
+
+fn text_of(alloc: Global, sink: &MemorySink) -> Result<String, Fail> {
+    Ok(String::from_str(alloc, str::from_utf8(sink.bytes())?)?)
+}
+
+// Runs the words over the world and the sinks, with nothing set but the kernel and the architecture.
+fn start_with(
+    alloc: Global,
+    world: &mut MemoryWorld,
+    words: &[&str],
+    out: &mut MemorySink,
+    err: &mut MemorySink,
+) -> Result<u8, AllocError> {
+    let setting = Setting {
+        root: None,
+        boot: None,
+        release: Some(Text::of(alloc, "6.1.0")?),
+        machine: Some(Text::of(alloc, "x86_64")?),
+    };
+    let words = words_of(alloc, words)?;
+    Ok(start(alloc, &words, &setting, world, out, err).code())
+}
+
+fn answer_to(alloc: Global, world: &mut MemoryWorld, words: &[&str]) -> Result<Answer, Fail> {
+    let mut out = MemorySink::new(alloc);
+    let mut err = MemorySink::new(alloc);
+    let status = start_with(alloc, world, words, &mut out, &mut err)?;
+    Ok(Answer {
+        status,
+        out: text_of(alloc, &out)?,
+        err: text_of(alloc, &err)?,
+    })
+}
+
+// The text of the link at the path, if there is one.
+fn link_at<'a>(alloc: Global, world: &'a MemoryWorld, path: &str) -> Result<Option<&'a str>, Fail> {
+    match world.node(&Path::parse(alloc, path)?) {
+        Some(Node::Link { text }) => Ok(Some(text.as_str())),
+        _ => Ok(None),
+    }
+}
+
+#[test]
+fn adds_a_package(rt: HostRuntime) -> Result<(), Fail> {
+    let alloc = rt.alloc();
+    let mut world = plain_world(&rt, alloc)?;
+    let added = answer_to(alloc, &mut world, &ADD_HELLO)?;
+    assert_eq!(rt; added.status, 0);
+    assert_eq!(rt; added.out.as_str(), "hello/1.0: added\n");
+    assert_eq!(rt; added.err.as_str(), "");
+    assert_eq!(rt;
+        link_at(alloc, &world, LINK)?.unwrap_or("none"),
+        "/usr/src/hello-1.0"
+    );
+    let again = answer_to(alloc, &mut world, &ADD_HELLO)?;
+    assert_eq!(rt; again.status, 4);
+    assert_eq!(rt; again.out.as_str(), "");
+    assert_eq!(rt; again.err.as_str(), "kmodboot: hello/1.0: already added\n");
+    assert_eq!(rt;
+        link_at(alloc, &world, LINK)?.unwrap_or("none"),
+        "/usr/src/hello-1.0"
+    );
+    Ok(())
+}
+
+// Words over the plain world, and their answer.
+struct Words(&'static [&'static str], u8, &'static str, &'static str);
+
+const WORDS: [Words; 14] = [
+    Words(
+        &["help"],
+        0,
+        "usage: kmodboot COMMAND\ncommands: dkms, kernel-install, kernel-hook, recover, selftest, help\n",
+        "",
+    ),
+    Words(&[], 1, "", "kmodboot: usage error at word 1\n"),
+    Words(&["frob"], 1, "", "kmodboot: usage error at word 1\n"),
+    Words(
+        &["help", "more"],
+        1,
+        "",
+        "kmodboot: usage error at word 2\n",
+    ),
+    Words(&["dkms"], 1, "", "kmodboot: usage error at word 2\n"),
+    Words(
+        &["dkms", "frob"],
+        1,
+        "",
+        "kmodboot: usage error at word 2\n",
+    ),
+    Words(&["dkms", "add"], 1, "", "kmodboot: usage error at word 3\n"),
+    Words(
+        &["dkms", "add", "hello"],
+        1,
+        "",
+        "kmodboot: usage error at word 3\n",
+    ),
+    Words(
+        &["dkms", "add", "-x/1"],
+        1,
+        "",
+        "kmodboot: usage error at word 3\n",
+    ),
+    Words(
+        &["dkms", "add", "hello/1/0"],
+        1,
+        "",
+        "kmodboot: usage error at word 3\n",
+    ),
+    Words(
+        &["dkms", "add", "hello/1.0", "more"],
+        1,
+        "",
+        "kmodboot: usage error at word 4\n",
+    ),
+    Words(
+        &["dkms", "add", "hello/.0"],
+        2,
+        "",
+        "kmodboot: bad name: .0\n",
+    ),
+    Words(&["dkms", "add", ".h/.0"], 2, "", "kmodboot: bad name: .h\n"),
+    Words(
+        &["dkms", "add", "nix/1.0"],
+        5,
+        "",
+        "kmodboot: no source: /usr/src/nix-1.0\n",
+    ),
+];
+
+#[test]
+fn words_have_their_answers(rt: HostRuntime) -> Result<(), Fail> {
+    let alloc = rt.alloc();
+    for Words(words, status, out, err) in &WORDS {
+        let mut world = plain_world(&rt, alloc)?;
+        let given = answer_to(alloc, &mut world, words)?;
+        assert_eq!(rt; given.status, *status, "status of {words:?}");
+        assert_eq!(rt; given.out.as_str(), *out, "out of {words:?}");
+        assert_eq!(rt; given.err.as_str(), *err, "err of {words:?}");
+        assert_eq!(rt; link_at(alloc, &world, LINK)?.unwrap_or("none"), "none");
+    }
+    Ok(())
+}
+
+// What stands besides the plain world, and the refusal of `dkms add hello/1.0`.
+struct Refused(&'static [Entry], u8, &'static str);
+
+const REFUSED: [Refused; 6] = [
+    Refused(
+        &[Entry("/var/lib/dkms", ".intent", What::File)],
+        20,
+        "kmodboot: /var/lib/dkms/.intent: damaged\n",
+    ),
+    Refused(
+        &[Entry("/var/lib/dkms", "hello", What::File)],
+        20,
+        "kmodboot: /var/lib/dkms/hello: damaged\n",
+    ),
+    Refused(
+        &[
+            Entry("/var/lib/dkms", "hello", What::Dir),
+            Entry("/var/lib/dkms/hello", "1.0", What::Link("x")),
+        ],
+        20,
+        "kmodboot: /var/lib/dkms/hello/1.0: damaged\n",
+    ),
+    Refused(
+        &[
+            Entry("/var/lib/dkms", "hello", What::Dir),
+            Entry("/var/lib/dkms/hello", "1.0", What::Dir),
+            Entry(
+                "/var/lib/dkms/hello/1.0",
+                "source",
+                What::Link("/usr/src/hello-2.0"),
+            ),
+        ],
+        20,
+        "kmodboot: /var/lib/dkms/hello/1.0/source: damaged\n",
+    ),
+    Refused(
+        &[
+            Entry("/var/lib/dkms", "hello", What::Dir),
+            Entry("/var/lib/dkms/hello", "1.0", What::Dir),
+            Entry("/var/lib/dkms/hello/1.0", "source", What::Dir),
+        ],
+        20,
+        "kmodboot: /var/lib/dkms/hello/1.0/source: damaged\n",
+    ),
+    Refused(
+        &[
+            Entry("/var/lib/dkms", "hello", What::Dir),
+            Entry("/var/lib/dkms/hello", "1.0", What::Dir),
+            Entry(
+                "/var/lib/dkms/hello/1.0",
+                "source",
+                What::Link("/usr/src/hello-1.0"),
+            ),
+        ],
+        4,
+        "kmodboot: hello/1.0: already added\n",
+    ),
+];
+
+#[test]
+fn what_stands_refuses_it(rt: HostRuntime) -> Result<(), Fail> {
+    let alloc = rt.alloc();
+    for Refused(entries, status, err) in &REFUSED {
+        let mut world = plain_world(&rt, alloc)?;
+        put_all(&rt, alloc, &mut world, entries)?;
+        let given = answer_to(alloc, &mut world, &ADD_HELLO)?;
+        assert_eq!(rt; given.status, *status, "where {err}");
+        assert_eq!(rt; given.out.as_str(), "");
+        assert_eq!(rt; given.err.as_str(), *err);
+    }
+    Ok(())
+}
+
+// Worlds that lack something, and the refusal of `dkms add hello/1.0`.
+const LACKING: [Refused; 3] = [
+    Refused(&[], 27, "kmodboot: no directory: /var/lib/dkms\n"),
+    Refused(
+        &[
+            Entry("/", "var", What::Dir),
+            Entry("/var", "lib", What::Dir),
+            Entry("/var/lib", "dkms", What::Dir),
+        ],
+        27,
+        "kmodboot: no directory: /usr/src\n",
+    ),
+    Refused(
+        &[
+            Entry("/", "var", What::Dir),
+            Entry("/var", "lib", What::Dir),
+            Entry("/var/lib", "dkms", What::Dir),
+            Entry("/", "usr", What::Dir),
+            Entry("/usr", "src", What::Dir),
+            Entry("/usr/src", "hello-1.0", What::Dir),
+            Entry("/usr/src/hello-1.0", "dkms.conf", What::Link("conf")),
+        ],
+        5,
+        "kmodboot: no source: /usr/src/hello-1.0/dkms.conf\n",
+    ),
+];
+
+#[test]
+fn what_lacks_refuses_it(rt: HostRuntime) -> Result<(), Fail> {
+    let alloc = rt.alloc();
+    for Refused(entries, status, err) in &LACKING {
+        let mut world = MemoryWorld::new(alloc, Roots::under(alloc, &Path::root(alloc))?)?;
+        put_all(&rt, alloc, &mut world, entries)?;
+        let given = answer_to(alloc, &mut world, &ADD_HELLO)?;
+        assert_eq!(rt; given.status, *status, "where {err}");
+        assert_eq!(rt; given.err.as_str(), *err);
+    }
+    Ok(())
+}
+
+#[test]
+fn a_failing_make_dir_is_a_fault(rt: HostRuntime) -> Result<(), Fail> {
+    let alloc = rt.alloc();
+    let mut world = plain_world(&rt, alloc)?;
+    // One look at the journal's place, two at the roots, five at the package's places and one more come before it.
+    world.fail_at(vec![in alloc; 10]?);
+    let given = answer_to(alloc, &mut world, &ADD_HELLO)?;
+    assert_eq!(rt; given.status, 70);
+    assert_eq!(rt; given.out.as_str(), "");
+    assert_eq!(rt;
+        given.err.as_str(),
+        "kmodboot: a file or program call failed\n"
+    );
+    Ok(())
+}
+
+#[test]
+fn a_failing_write_comes_after_the_link(rt: HostRuntime) -> Result<(), Fail> {
+    let alloc = rt.alloc();
+    let mut world = plain_world(&rt, alloc)?;
+    let mut out = MemorySink::new(alloc);
+    let mut err = MemorySink::new(alloc);
+    out.fail_at(vec![in alloc; 1]?);
+    let status = start_with(alloc, &mut world, &ADD_HELLO, &mut out, &mut err)?;
+    assert_eq!(rt; status, 74);
+    assert_eq!(rt;
+        link_at(alloc, &world, LINK)?.unwrap_or("none"),
+        "/usr/src/hello-1.0"
+    );
+    Ok(())
+}
