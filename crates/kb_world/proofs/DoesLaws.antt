@@ -1,12 +1,12 @@
 -- How what calls do is put together.
-use Rattle.std.proofs.Common.{◌≡◌, ◌≤◌, ◌⊎◌, ℕ, ◌+◌, ◌-◌, ◌^◌, min, Bool, true, List, [], ◌∷◌, ◌++◌, Option, Some, None, refl, sym, ap, ◌∙◌, subst, arith, inl, inr}
+use Rattle.std.proofs.Common.{◌≡◌, ◌≤◌, ℕ, List, ◌++◌, Option, Some, None, refl, sym, ap, ◌∙◌, subst, arith}
 use Rattle.std.proofs.lemmas.List.{append-nil}
-use Rattle.std.specs.Prelude.{IsErrOf, IsTrue, Result, Ok, Err, option_map}
+use Rattle.std.specs.Prelude.{IsErrOf, Result, Ok, Err, option_map}
 use Rattle.kb_world.specs.Tree.{Tree}
 use Rattle.kb_world.specs.State.{State, HasCause, Rose}
 use Rattle.kb_world.specs.Public.{public_tree, foreign_tree}
-use Rattle.kb_world.specs.Outcome.{Outcome, Action, refuse_if, unless, transaction, go_on, last_of, ◌then◌}
-use Rattle.kb_world.specs.Does.{CameAbout, IsTreeOf, Does, Decides, Transforms, Answers}
+use Rattle.kb_world.specs.Outcome.{Outcome, Action, refuse_if, unless, transaction, go_on, ◌then◌}
+use Rattle.kb_world.specs.Does.{CameAbout, Does, Decides, Transforms, Answers}
 use Rattle.kb_world.specs.declared.roots.Roots.{Roots}
 use Rattle.kb_world.specs.declared.job.Report.{Report}
 use Rattle.kb_world.specs.declared.refusal.Refusal.{Refusal}
@@ -70,8 +70,8 @@ pub does_passed : (roots : Roots) (read due : Tree → Option Refusal) (second :
     → Does roots (unless due then second) old new before after result
 does_passed roots read due second old mid new before after result same d e = record {
   answers = λ tree told.
-    let P : Outcome → Type 0 = λ outcome. Answers roots (public_tree roots tree) outcome result new.tree before after in
-    subst P (sym (unless_passed due second (public_tree roots tree) (foreign_tree roots tree) (sym (same tree) ∙ d.agrees tree told))) (e.answers tree (d.tree ∙ told));
+      let P : Outcome → Type 0 = λ outcome. Answers roots (public_tree roots tree) outcome result new.tree before after in
+      subst P (sym (unless_passed due second (public_tree roots tree) (foreign_tree roots tree) (sym (same tree) ∙ d.agrees tree told))) (e.answers tree (d.tree ∙ told));
   same_roots = e.same_roots ∙ d.roots;
   cause = cause_then Fault old mid new (Ok tt) result d.cause e.cause;
 }
@@ -89,7 +89,7 @@ does_transaction roots change step line old new before after result steps keeps 
 }
   where
     by_result : (r : Result (Unit {0}) Stop) → Transforms change old new r → (tree : Tree) → old.tree ≡ Some tree
-      → Answers roots (public_tree roots tree) (transaction step line (public_tree roots tree) (foreign_tree roots tree)) r new.tree before after
+        → Answers roots (public_tree roots tree) (transaction step line (public_tree roots tree) (foreign_tree roots tree)) r new.tree before after
     by_result (Ok u) t tree told = record {
       end = refl;
       tree = (change tree, t.done ∙ ap (option_map change) told, record { public_part = steps tree; foreign_part = keeps tree });

@@ -1,20 +1,19 @@
 -- Which paths are public whatever stands there, and how the public tree goes with the tree.
-use Rattle.std.proofs.Common.{◌≡◌, ◌≢◌, ℕ, ◌+◌, Bool, true, false, cond, ◌&&◌, ◌||◌, not, List, [], ◌∷◌, ◌++◌, length, take, drop, nat_eq, Option, Some, None, refl, sym, ap, ◌∙◌, subst, arith, append_assoc}
-use Rattle.std.specs.Prelude.{bytes_eq, codes, IsTrue}
-use Rattle.std.specs.List.{list_all, list_any}
+use Rattle.std.proofs.Common.{◌≡◌, ℕ, ◌+◌, Bool, true, false, cond, ◌&&◌, ◌||◌, not, List, [], ◌∷◌, ◌++◌, length, drop, nat_eq, Option, Some, None, refl, sym, ap, ◌∙◌}
+use Rattle.std.specs.Prelude.{bytes_eq, codes}
+use Rattle.std.specs.List.{list_all}
 use Rattle.std.specs.Cmp.{first_so, second_so}
-use Rattle.std.specs.Cmp.Derive.{both_true}
 use Rattle.std.specs.Cmp.Lexicographic.{bytes_decides}
 use Rattle.std.specs.FinMap.{get-retain_keys}
 use Rattle.kb_world.specs.Names.{begins_alphanumeric}
-use Rattle.kb_world.specs.Path.{Path, is_under, are_apart, child, path_cmp}
-use Rattle.kb_world.specs.Roots.{AreApart, based_roots, each_apart, is_below}
+use Rattle.kb_world.specs.Path.{Path, is_under, are_apart, child}
+use Rattle.kb_world.specs.Roots.{AreApart, based_roots, each_apart}
 use Rattle.kb_world.specs.Tree.{Tree, node_at, with_node, is_dir}
-use Rattle.kb_world.specs.TreeLaws.{paths_exact, same_path, same_path-true, same_path-refl, node_at-with_node, same_tree}
-use Rattle.kb_world.specs.Public.{is_public, is_private, is_loose, is_scratch, private_places, public_tree, foreign_tree}
+use Rattle.kb_world.specs.TreeLaws.{paths_exact, same_path, same_path-true, node_at-with_node, same_tree}
+use Rattle.kb_world.specs.Public.{is_public, is_private, is_loose, is_scratch, public_tree, foreign_tree}
 use Rattle.kb_world.specs.declared.roots.Roots.{Roots}
 use Rattle.kb_world.specs.declared.tree.Node.{Node}
-use Rattle.kb_world.proofs.PathLaws.{under-append, under-self, under-beside, under-above, elsewhere, elsewhere-below, apart-back, drop-front, by_test}
+use Rattle.kb_world.proofs.PathLaws.{under-append, under-beside, elsewhere, elsewhere-below, apart-back, drop-front, by_test}
 
 -- the roots that are written, and which of them are apart
 pub record WrittenApart (roots : Roots) : Type 0 where

@@ -1,11 +1,10 @@
 -- What stands where after a directory was made.
-use Rattle.std.proofs.Common.{◌≡◌, ◌≢◌, ℕ, ◌+◌, ◌-◌, Bool, true, false, cond, List, [], ◌∷◌, ◌++◌, length, take, Option, Some, None, is_some, refl, sym, ap, ◌∙◌, subst, arith, length-append}
+use Rattle.std.proofs.Common.{◌≡◌, ◌≢◌, ℕ, ◌-◌, Bool, true, false, cond, List, [], ◌∷◌, ◌++◌, length, take, Some, None, is_some, refl, sym, ap, ◌∙◌, arith, length-append}
 use Rattle.std.proofs.Math.Seq.{take-append_seam}
 use Rattle.kb_world.specs.Path.{Path, child, parent}
-use Rattle.kb_world.specs.Tree.{Tree, node_at, with_node, is_dir, CanMake}
+use Rattle.kb_world.specs.Tree.{Tree, node_at, with_node, is_dir}
 use Rattle.kb_world.specs.TreeLaws.{with_node-here, with_node-apart}
 use Rattle.kb_world.specs.Steps.{with_directory, blocking}
-use Rattle.kb_world.specs.declared.tree.Node.{Node}
 use Rattle.kb_world.specs.declared.tree.Node.TheVariants as node
 
 pub parent-child : (path : Path) (name : List ℕ) → parent (child path name) ≡ path

@@ -1,5 +1,5 @@
 -- Which part of the tree is whose. This project's own.
-use Rattle.std.specs.Prelude.{◌≡◌, ℕ, ◌+◌, Bool, true, false, ◌&&◌, ◌||◌, not, List, [], ◌∷◌, ◌++◌, length, drop, nat_eq, Option, codes, bytes_eq}
+use Rattle.std.specs.Prelude.{◌+◌, Bool, false, ◌&&◌, ◌||◌, not, List, [], ◌∷◌, length, drop, nat_eq, Option, codes, bytes_eq}
 use Rattle.std.specs.List.{list_any}
 use Rattle.std.specs.FinMap.{retain_keys}
 use Rattle.kb_world.specs.Names.{is_word, is_version}

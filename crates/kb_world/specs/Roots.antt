@@ -1,6 +1,6 @@
 -- The roots: where everything stands. This project's own, after the places that dkms(8), kernel-install(8) and the
 -- File Hierarchy Standard name.
-use Rattle.std.specs.Prelude.{Bool, true, ◌&&◌, not, List, [], ◌∷◌, ◌++◌, codes, IsTrue}
+use Rattle.std.specs.Prelude.{Bool, true, ◌&&◌, not, List, [], ◌∷◌, codes, IsTrue}
 use Rattle.std.specs.List.{list_all}
 use Rattle.kb_world.specs.Path.{Path, child, is_under, are_apart}
 use Rattle.kb_world.specs.declared.roots.Roots.{Roots}

@@ -1,5 +1,5 @@
 -- The steps: what one transaction makes of a store. After dkms(8), and this project's own.
-use Rattle.std.specs.Prelude.{◌≡◌, Bool, cond, ◌++◌, Option, Some, None, is_some, codes}
+use Rattle.std.specs.Prelude.{cond, Option, Some, None, is_some}
 use Rattle.std.specs.Option.{option_or}
 use Rattle.kb_world.specs.Path.{Path}
 use Rattle.kb_world.specs.Tree.{Tree, node_at, with_node, is_dir}

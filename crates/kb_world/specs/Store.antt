@@ -1,6 +1,6 @@
 -- The store: what stands below the dkms root. The layout is after the tool dkms, and this project's own.
-use Rattle.std.specs.Prelude.{◌≡◌, ℕ, Bool, true, false, ◌&&◌, not, cond, List, [], ◌∷◌, ◌++◌, length, drop, Option, Some, None, codes, bytes_eq, filter_map}
-use Rattle.std.specs.FinMap.{retain_keys, keys}
+use Rattle.std.specs.Prelude.{ℕ, Bool, false, ◌&&◌, cond, List, [], ◌∷◌, ◌++◌, length, drop, Option, Some, None, codes, bytes_eq, filter_map}
+use Rattle.std.specs.FinMap.{keys}
 use Rattle.kb_world.specs.Names.{is_word, is_version}
 use Rattle.kb_world.specs.Path.{Path, child, is_under, path_text}
 use Rattle.kb_world.specs.Tree.{Tree, node_at, link_text}

@@ -1,6 +1,6 @@
 -- The tree: a finite map from paths to directories, files and links. This project's own.
-use Rattle.std.specs.Prelude.{◌≡◌, ℕ, ◌-◌, Bool, true, false, List, [], ◌∷◌, length, Option, Some, None, is_some, IsTrue}
-use Rattle.std.specs.FinMap.{FinMap, get, insert, remove}
+use Rattle.std.specs.Prelude.{◌≡◌, ℕ, Bool, true, false, List, length, Option, Some, None, is_some, IsTrue}
+use Rattle.std.specs.FinMap.{FinMap, get, insert}
 use Rattle.kb_world.specs.Path.{Path, path_cmp, parent}
 use Rattle.kb_world.specs.declared.tree.Node.{Node}
 use Rattle.kb_world.specs.declared.tree.Node.TheVariants as node

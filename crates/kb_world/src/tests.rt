@@ -146,3 +146,14 @@ fn bytes_and_lists_grow(rt: HostRuntime) -> Result<(), Fail> {
     assert_eq!(rt; texts.as_slice().len(), 1);
     Ok(())
 }
+
+#[test]
+fn spots_are_listed(rt: HostRuntime) -> Result<(), Fail> {
+    let mut spots = SpotList::new(rt.alloc());
+    spots.push(Spot {
+        kernel: Text::of(rt.alloc(), "6.1.0")?,
+        arch: Text::of(rt.alloc(), "x86_64")?,
+    })?;
+    assert_eq!(rt; spots.as_slice().len(), 1);
+    Ok(())
+}
