@@ -1,5 +1,5 @@
 // What a world does to the system's files. A path is its text, which begins with `/`.
-ghost use Rattle.std.specs.Prelude.{◌≡◌, ◌≢◌, ◌⊎◌, ◌↔◌, ℕ, IfOk, IsErr, IsTrue};
+ghost use Rattle.std.specs.Prelude.{◌≡◌, ◌≢◌, ◌⊎◌, ◌↔◌, ℕ, IfOk, IfErr, IsErr, IsTrue};
 ghost use Rattle.std.specs.IoError.{error_kind};
 ghost use Rattle.std.specs.Fs.{metadata_len, metadata_mode, file_type, IsDir, IsFile, IsSymlink};
 ghost use Rattle.kb_real.specs.Modes.{owner_executes};
@@ -85,8 +85,20 @@ fn parent_of(path: &str) -> Path<'_> {
     }
 }
 
-// Waits until what the directory lists is on the disk.
-fn sync_directory<R: Files>(rt: &R, path: Path<'_>) -> io::Result<()> {
+// Waits until what the directory lists is on the disk. What it lists was changed before, and want of memory is to say
+// that nothing was, so here it is told as another error.
+fn sync_directory<R: Files>(rt: &R, path: Path<'_>) -> io::Result<()>
+    ensures { IfErr result (λ error. error_kind error ≢ ErrorKind.OutOfMemory) }
+{
+    match open_and_sync(rt, path) {
+        Err(error) if error.kind() == ErrorKind::OutOfMemory => Err(io::Error::from(
+            ErrorKind::Other,
+        )),
+        synced => synced,
+    }
+}
+
+fn open_and_sync<R: Files>(rt: &R, path: Path<'_>) -> io::Result<()> {
     fs::open(rt, path)?.sync_all()
 }
 
