@@ -1,0 +1,5 @@
+pub mod Bytes
+pub mod Name
+pub mod Piece
+pub mod Front
+pub mod Views

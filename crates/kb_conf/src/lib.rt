@@ -1,0 +1,7 @@
+//! The text of a `dkms.conf`: its grammar, and the first bad line of a text that is not in it.
+#![tactic(auto)]
+
+mod bytes;
+mod name;
+mod piece;
+mod spans;
