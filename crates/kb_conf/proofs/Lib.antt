@@ -1,0 +1,4 @@
+pub mod Tools
+pub mod SpanLaws
+pub mod NumberLaws
+pub mod ReferenceLaws

@@ -6,7 +6,7 @@ use Rattle.std.specs.Char.{is_ascii_digit}
 use Rattle.kb_conf.specs.declared.bytes.TheConstants.{ZERO, QUOTE, DOLLAR, APOSTROPHE, OPEN_PARENTHESIS, CLOSE_PARENTHESIS, BACKSLASH, BACKQUOTE, OPEN_BRACE, CLOSE_BRACE, OPEN_BRACKET, CLOSE_BRACKET}
 use Rattle.kb_conf.specs.Bytes.{starts_name, continues_name, begins_expansion, stands_for_itself}
 use Rattle.kb_conf.specs.Name.{Reference}
-use Rattle.kb_conf.specs.Piece.{Piece, Bare, Escaped, Single, Quote, Plain, Braced, Command, Backquoted, Dollar, Mode}
+use Rattle.kb_conf.specs.Piece.{Piece, Bare, Escaped, Single, Quote, Plain, Braced, Command, Backquoted, Dollar, Mode, depth_after}
 
 -- what follows one byte of this kind
 abbrev pub byte_at : ℕ → List ℕ → Option (List ℕ)
@@ -58,7 +58,7 @@ reference_at text = do
 -- what stands before the parenthesis that closes the last of those that are depth, and what follows it
 abbrev pub closing_at : ℕ → List ℕ → Option (List ℕ × List ℕ)
 closing_at depth [] = None
-closing_at depth (b ∷ bs) = if b == CLOSE_PARENTHESIS && depth == 0 then Some ([], bs) else option_map (λ found. (b ∷ found.0, found.1)) (closing_at (if b == OPEN_PARENTHESIS then depth + 1 else if b == CLOSE_PARENTHESIS then depth - 1 else depth) bs)
+closing_at depth (b ∷ bs) = if b == CLOSE_PARENTHESIS && depth == 0 then Some ([], bs) else option_map (λ found. (b ∷ found.0, found.1)) (closing_at (depth_after depth b) bs)
 
 -- the pieces that begin with a $, behind it
 unfoldable pub braced_at : List ℕ → Option (Piece × List ℕ)

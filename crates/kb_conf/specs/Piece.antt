@@ -40,10 +40,14 @@ spell Dollar = DOLLAR ∷ []
 abbrev pub lacks : ℕ → List ℕ → Bool
 lacks b text = list_all (λ c. not (c == b)) text
 
+-- how many parentheses are open behind a byte
+abbrev pub depth_after : ℕ → ℕ → ℕ
+depth_after depth b = if b == OPEN_PARENTHESIS then depth + 1 else if b == CLOSE_PARENTHESIS then depth - 1 else depth
+
 -- with so many parentheses open, the text closes them all and each that it opens, and no other
 abbrev pub closes : ℕ → List ℕ → Bool
 closes depth [] = depth == 0
-closes depth (b ∷ bs) = if b == OPEN_PARENTHESIS then closes (depth + 1) bs else if b == CLOSE_PARENTHESIS then nat_lt 0 depth && closes (depth - 1) bs else closes depth bs
+closes depth (b ∷ bs) = not (b == CLOSE_PARENTHESIS && depth == 0) && closes (depth_after depth b) bs
 
 -- a name behind $ is as long as the text allows
 abbrev pub ends_name : List ℕ → Bool
