@@ -2,3 +2,4 @@ pub mod Tools
 pub mod SpanLaws
 pub mod NumberLaws
 pub mod ReferenceLaws
+pub mod PieceLaws
