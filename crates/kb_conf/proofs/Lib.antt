@@ -3,3 +3,4 @@ pub mod SpanLaws
 pub mod NumberLaws
 pub mod ReferenceLaws
 pub mod PieceLaws
+pub mod TableLaws

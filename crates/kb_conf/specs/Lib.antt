@@ -3,3 +3,5 @@ pub mod Name
 pub mod Piece
 pub mod Front
 pub mod Views
+pub mod Assignment
+pub mod Table

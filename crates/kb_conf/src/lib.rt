@@ -5,3 +5,4 @@ mod bytes;
 mod name;
 mod piece;
 mod spans;
+mod table;
