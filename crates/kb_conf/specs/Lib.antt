@@ -5,3 +5,5 @@ pub mod Front
 pub mod Views
 pub mod Assignment
 pub mod Table
+pub mod Value
+pub mod GivenView

@@ -2,7 +2,9 @@
 #![tactic(auto)]
 
 mod bytes;
+mod given;
 mod name;
 mod piece;
 mod spans;
 mod table;
+mod value;
