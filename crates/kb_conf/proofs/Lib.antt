@@ -4,3 +4,4 @@ pub mod NumberLaws
 pub mod ReferenceLaws
 pub mod PieceLaws
 pub mod TableLaws
+pub mod ValueLaws

@@ -6,4 +6,5 @@ pub mod Views
 pub mod Assignment
 pub mod Table
 pub mod Value
+pub mod Only
 pub mod GivenView

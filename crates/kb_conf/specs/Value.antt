@@ -1,5 +1,5 @@
 -- What the pieces of a value give.
-use Rattle.std.specs.Prelude.{ℕ, ◌+◌, Bool, true, not, ◌&&◌, ◌||◌, List, [], ◌∷◌, ◌++◌, Option, Some, None, unwrap_or, ◌==◌, if◌then◌else◌, nat_le, length}
+use Rattle.std.specs.Prelude.{◌≡◌, IsTrue, ℕ, Bool, true, not, ◌&&◌, ◌||◌, List, [], ◌∷◌, ◌++◌, Option, Some, None, unwrap_or, ◌==◌, if◌then◌else◌, nat_le, length}
 use Rattle.std.specs.Option.{option_or}
 use Rattle.kb_conf.specs.declared.bytes.TheConstants.{LINE_FEED, DOLLAR, BACKSLASH, SEMICOLON}
 use Rattle.kb_conf.specs.declared.value.TheConstants.{LONGEST_VALUE}
@@ -57,3 +57,10 @@ are_value m (p ∷ ps) after = fits m p (spell_pieces ps ++ after) && are_value 
 -- a value has at most 65,536 bytes
 abbrev pub is_short : List ℕ → Bool
 is_short value = nat_le (length value) LONGEST_VALUE
+
+-- the grammar cuts the text up to what is after into the pieces of a value, which give it
+pub record ReadsValue (s : Scope) (m : Mode) (text value after : List ℕ) : Type 0 where
+  pub pieces : List Piece
+  pub spelled : text ≡ spell_pieces pieces ++ after
+  pub fitting : IsTrue (are_value m pieces after)
+  pub given : value ≡ give_all s m pieces
