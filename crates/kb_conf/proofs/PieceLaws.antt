@@ -1,5 +1,6 @@
 -- A piece is found where it is spelled and may stand, and no other piece is.
-use Rattle.std.proofs.Common.{◌≡◌, ℕ, ◌+◌, ◌<◌, Bool, true, false, not, ◌&&◌, ◌||◌, cond, eqb, ltb, List, [], ◌∷◌, ◌++◌, refl, sym, ap, ◌∙◌, arith, Option, Some, None, append_assoc, ◌⊎◌, inl, inr}
+use Rattle.std.proofs.Common.{◌≡◌, ℕ, ◌+◌, ◌<◌, Bool, true, false, not, ◌&&◌, ◌||◌, cond, eqb, ltb, List, [], ◌∷◌, ◌++◌, length, take, ◌-◌, refl, sym, ap, ◌∙◌, arith, Option, Some, None, append_assoc, ◌⊎◌, inl, inr}
+use Rattle.std.proofs.lemmas.List.{length-append, take_at}
 use Rattle.std.specs.Prelude.{option_map}
 use Rattle.std.proofs.lemmas.Bool.Decides.{nat_tests}
 use Rattle.std.proofs.lemmas.Bool.{eqb-true, and_parts, and_from, not-true, not_from_false, false≢true}
@@ -8,7 +9,7 @@ use Rattle.kb_conf.specs.declared.bytes.TheConstants.{QUOTE, DOLLAR, APOSTROPHE,
 use Rattle.kb_conf.specs.Bytes.{starts_name, continues_name, begins_expansion, stands_for_itself}
 use Rattle.kb_conf.specs.Name.{Reference, is_name, is_reference, spell_reference}
 use Rattle.kb_conf.specs.Piece.{Piece, Bare, Escaped, Single, Quote, Plain, Braced, Command, Backquoted, Dollar, Mode, spell, fits, lacks, closes, ends_name, ends_dollar}
-use Rattle.kb_conf.specs.Front.{byte_at, until_byte, name_at, reference_at, closing_at, braced_at, expansion_at, escaped_at, piece_at, ◌>>=◌}
+use Rattle.kb_conf.specs.Front.{byte_at, until_byte, name_at, reference_at, closing_at, braced_at, expansion_at, escaped_at, piece_at, ◌>>=◌, IsNextPiece}
 use Rattle.kb_conf.proofs.Tools.{mapped, bound, chosen}
 use Rattle.kb_conf.proofs.SpanLaws.{stops, joined, byte_found, until_found, until_again, name_found, name_again, closing_found, closing_again}
 use Rattle.kb_conf.proofs.ReferenceLaws.{reference_found, reference_again}
@@ -164,3 +165,31 @@ piece_found m (b ∷ bs) p rest e =
     | inr not_bare ↦ elim (chosen (eqb b APOSTROPHE) _ _ (Some (p, rest)) not_bare.1) [ inl apostrophe ↦
         respelled m _ _ p rest (head_is b APOSTROPHE bs apostrophe.0) (single_found m bs p rest (outside_quotes m.quoted b apostrophe.0 not_bare.0) apostrophe.1)
     | inr other ↦ absurd (none-some (p, rest) other.1) ] ] ] ] ] ]
+
+spelled_out : (p : Piece) → 0 < length (spell p)
+spelled_out (Bare b) = omega arith
+spelled_out (Escaped b) = omega arith
+spelled_out (Single text) = omega arith
+spelled_out Quote = omega arith
+spelled_out (Plain name) = omega arith
+spelled_out (Braced r) = omega arith
+spelled_out (Command text) = omega arith
+spelled_out (Backquoted text) = omega arith
+spelled_out Dollar = omega arith
+
+pub piece_shortens : (m : Mode) (text : List ℕ) (p : Piece) (rest : List ℕ) → piece_at m text ≡ Some (p, rest) → length rest < length text
+piece_shortens m text p rest e =
+    let s = piece_found m text p rest e in
+    let whole : length text ≡ length (spell p) + length rest = ap length s.spelling ∙ length-append (spell p) rest in
+    let out = spelled_out p in
+    omega arith
+
+pub piece_next : (m : Mode) (text : List ℕ) (p : Piece) (written rest : List ℕ) → piece_at m text ≡ Some (p, rest) → written ≡ take (length text - length rest) text → IsNextPiece m text p written rest
+piece_next m text p written rest e w =
+    let s = piece_found m text p rest e in
+    let whole : length text ≡ length (spell p) + length rest = ap length s.spelling ∙ length-append (spell p) rest in
+    let n : length text - length rest ≡ length (spell p) = omega arith in
+    record {
+        found = e;
+        spelled = w ∙ ap (λ k. take k text) n ∙ ap (take (length (spell p))) s.spelling ∙ take_at (spell p) rest (length (spell p)) refl;
+        shorter = piece_shortens m text p rest e }

@@ -1,12 +1,12 @@
 -- What stands at the front of a text, as plain functions. The grammar doesn't cite them: they are what the
 -- reader's parts compute, and the laws in proofs/ tie them to the grammar.
-use Rattle.std.specs.Prelude.{◌≡◌, ℕ, ◌+◌, ◌-◌, ◌*◌, Bool, true, false, not, ◌&&◌, List, [], ◌∷◌, Option, Some, None, option_map, option_and_then, nat_lt, ◌==◌, if◌then◌else◌, take, drop}
+use Rattle.std.specs.Prelude.{◌≡◌, ℕ, ◌+◌, ◌-◌, ◌*◌, Bool, true, false, not, ◌&&◌, List, [], ◌∷◌, Option, Some, None, option_map, option_and_then, nat_lt, ◌==◌, if◌then◌else◌, take, drop, length, ◌<◌}
 use Rattle.std.specs.List.{prefix_len}
 use Rattle.std.specs.Char.{is_ascii_digit}
 use Rattle.kb_conf.specs.declared.bytes.TheConstants.{ZERO, QUOTE, DOLLAR, APOSTROPHE, OPEN_PARENTHESIS, CLOSE_PARENTHESIS, BACKSLASH, BACKQUOTE, OPEN_BRACE, CLOSE_BRACE, OPEN_BRACKET, CLOSE_BRACKET}
 use Rattle.kb_conf.specs.Bytes.{starts_name, continues_name, begins_expansion, stands_for_itself}
 use Rattle.kb_conf.specs.Name.{Reference}
-use Rattle.kb_conf.specs.Piece.{Piece, Bare, Escaped, Single, Quote, Plain, Braced, Command, Backquoted, Dollar, Mode, depth_after}
+use Rattle.kb_conf.specs.Piece.{Piece, Bare, Escaped, Single, Quote, Plain, Braced, Command, Backquoted, Dollar, Mode, depth_after, spell}
 
 -- what follows one byte of this kind
 abbrev pub byte_at : ℕ → List ℕ → Option (List ℕ)
@@ -90,3 +90,9 @@ piece_at m (b ∷ bs) =
     else if stands_for_itself m.quoted b then Some (Bare b, bs)
     else if b == APOSTROPHE then option_map (λ found. (Single found.0, found.1)) (until_byte APOSTROPHE bs)
     else None
+
+-- a piece at the front, how it is written, and what follows it
+pub record IsNextPiece (m : Mode) (text : List ℕ) (p : Piece) (written rest : List ℕ) : Type 0 where
+  pub found : piece_at m text ≡ Some (p, rest)
+  pub spelled : written ≡ spell p
+  pub shorter : length rest < length text

@@ -54,7 +54,7 @@ abbrev pub are_value : Mode → List Piece → List ℕ → Bool
 are_value m [] after = not m.quoted && ends_item after
 are_value m (p ∷ ps) after = fits m p (spell_pieces ps ++ after) && are_value (mode_after m p) ps after
 
--- a value has at most 65,536 bytes
+-- at most 65,536 bytes
 abbrev pub is_short : List ℕ → Bool
 is_short value = nat_le (length value) LONGEST_VALUE
 
@@ -64,3 +64,7 @@ pub record ReadsValue (s : Scope) (m : Mode) (text value after : List ℕ) : Typ
   pub spelled : text ≡ spell_pieces pieces ++ after
   pub fitting : IsTrue (are_value m pieces after)
   pub given : value ≡ give_all s m pieces
+
+-- a value of at most 65,536 bytes, and what follows it
+abbrev pub IsShortValue : Scope → Mode → List ℕ → List ℕ × List ℕ → Type 0
+IsShortValue s m text v = ReadsValue s m text v.0 v.1 × IsTrue (is_short v.0)

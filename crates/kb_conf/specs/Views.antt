@@ -1,5 +1,6 @@
 -- The reader's values, seen without where they lie in memory.
-use Rattle.std.specs.Prelude.{ℕ, List, Option, Some, None, option_map}
+use Rattle.std.specs.Prelude.{ℕ, List, Option, Some, None, option_map, Vec}
+use Rattle.std.specs.declared.alloc.Global.{Global}
 use Rattle.std.specs.Borrow.{Bor}
 use Rattle.kb_conf.specs.Name.{Reference}
 use Rattle.kb_conf.specs.Piece as grammar
@@ -42,3 +43,6 @@ view_piece Dollar = grammar.Dollar
 
 abbrev pub pieces_view : Option (code_piece.Piece × Bor (List ℕ)) → Option (grammar.Piece × List ℕ)
 pieces_view o = option_map (λ (p : code_piece.Piece × Bor (List ℕ)). (view_piece p.0, p.1.now)) o
+
+abbrev pub value_view : Option (Vec ℕ Global × Bor (List ℕ)) → Option (List ℕ × List ℕ)
+value_view o = option_map (λ (p : Vec ℕ Global × Bor (List ℕ)). (p.0.items, p.1.now)) o

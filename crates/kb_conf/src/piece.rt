@@ -1,7 +1,8 @@
 //! The pieces of a value.
-ghost use Rattle.std.specs.Prelude.{◌≡◌};
-ghost use Rattle.kb_conf.specs.Front.{braced_at, expansion_at, piece_at};
-ghost use Rattle.kb_conf.specs.Views.{pieces_view, mode_view};
+ghost use Rattle.std.specs.Prelude.{◌≡◌, MatchOption, None};
+ghost use Rattle.kb_conf.specs.Piece.{mode_after};
+ghost use Rattle.kb_conf.specs.Front.{braced_at, expansion_at, piece_at, IsNextPiece};
+ghost use Rattle.kb_conf.specs.Views.{pieces_view, mode_view, view_piece};
 
 use super::bytes::{
     APOSTROPHE, BACKQUOTE, BACKSLASH, CLOSE_BRACE, DOLLAR, OPEN_BRACE, OPEN_PARENTHESIS, QUOTE,
@@ -102,4 +103,28 @@ pub fn split_piece(mode: Mode, text: &[u8]) -> Option<(Piece<'_>, &[u8])>
         }
         _ => None,
     }
+}
+
+impl Mode {
+    /// Where the next piece stands: a double quote flips whether it is quoted.
+    pub fn after(self, piece: Piece<'_>) -> Mode
+        ensures { mode_view result ≡ mode_after (mode_view self) (view_piece piece.entry) }
+    {
+        match piece {
+            Piece::Quote => Mode {
+                quoted: !self.quoted,
+                command: self.command,
+            },
+            _ => self,
+        }
+    }
+}
+
+/// The piece at the front, how it is written, and what follows it.
+pub fn next_piece(mode: Mode, text: &[u8]) -> Option<(Piece<'_>, &[u8], &[u8])>
+    ensures { MatchOption result (piece_at (mode_view mode) text.now ≡ None) (λ f. IsNextPiece (mode_view mode) text.now (view_piece f.0) f.1.now f.2.now) }
+{
+    let (piece, rest) = split_piece(mode, text)?;
+    let (written, _) = text.split_at(text.len() - rest.len());
+    Some((piece, written, rest))
 }

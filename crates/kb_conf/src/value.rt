@@ -1,14 +1,17 @@
 //! Values of assignments.
-ghost use Rattle.std.specs.Prelude.{◌≡◌};
+ghost use Rattle.std.specs.Prelude.{◌≡◌, IfOk, false};
+ghost use Rattle.kb_conf.specs.Only.{IsOnly};
 ghost use Rattle.kb_conf.specs.GivenView.{view_given};
 ghost use Rattle.kb_conf.specs.Piece.{spell};
-ghost use Rattle.kb_conf.specs.Value.{look_up, expand, gives, ends_item};
-ghost use Rattle.kb_conf.specs.Views.{rest_view, view_reference, view_piece, mode_view};
+ghost use Rattle.kb_conf.specs.Value.{look_up, expand, gives, ends_item, IsShortValue};
+ghost use Rattle.kb_conf.specs.Views.{rest_view, view_reference, view_piece, mode_view, value_view};
+
+use std::alloc::{AllocError, Global};
 
 use super::bytes::{BACKSLASH, LINE_FEED, SEMICOLON, is_active, is_blank};
 use super::given::Given;
 use super::name::Reference;
-use super::piece::{Mode, Piece};
+use super::piece::{Mode, Piece, next_piece};
 use super::table::Table;
 
 /// The most bytes that a value may have.
@@ -75,5 +78,38 @@ fn ends_item(text: &[u8]) -> bool
     match text.split_first() {
         None => true,
         Some((first, _)) => is_blank(*first) || *first == SEMICOLON || *first == LINE_FEED,
+    }
+}
+
+/// Reads a value and says what follows it. There is none where the text here is not that of an
+/// assignment, or its value is too long: the reader stops at the piece that makes it so.
+pub fn read_value<'a>(
+    alloc: Global,
+    given: &Given<'_>,
+    earlier: &Table<'_>,
+    command: bool,
+    text: &'a [u8],
+) -> Result<Option<(Vec<u8>, &'a [u8])>, AllocError>
+    ensures { IfOk result (λ found. IsOnly (IsShortValue (record { given = view_given given.now; earlier = earlier.now }) (record { quoted = false; command = command }) text.now) (value_view found)) }
+{
+    let mut value = Vec::new(alloc);
+    let mut mode = Mode {
+        quoted: false,
+        command,
+    };
+    let mut rest = text;
+    'pieces: while let Some((piece, written, behind)) = next_piece(mode, rest) {
+        let bytes = given_by(&*given, &*earlier, mode, piece, written);
+        if bytes.len() > LONGEST_VALUE - value.len() {
+            return Ok(None);
+        }
+        value.extend_from_slice(bytes)?;
+        mode = mode.after(piece);
+        rest = behind;
+    }
+    if !mode.quoted && ends_item(rest) {
+        Ok(Some((value, rest)))
+    } else {
+        Ok(None)
     }
 }
