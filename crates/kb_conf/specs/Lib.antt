@@ -8,3 +8,6 @@ pub mod Table
 pub mod Value
 pub mod Only
 pub mod GivenView
+pub mod Place
+pub mod Line
+pub mod LineViews

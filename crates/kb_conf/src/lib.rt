@@ -3,8 +3,10 @@
 
 mod bytes;
 mod given;
+mod line;
 mod name;
 mod piece;
+mod place;
 mod spans;
 mod table;
 mod value;
