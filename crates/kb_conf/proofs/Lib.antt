@@ -5,3 +5,4 @@ pub mod ReferenceLaws
 pub mod PieceLaws
 pub mod TableLaws
 pub mod ValueLaws
+pub mod AssignmentLaws

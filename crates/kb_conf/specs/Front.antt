@@ -3,8 +3,10 @@
 use Rattle.std.specs.Prelude.{◌≡◌, ℕ, ◌+◌, ◌-◌, ◌*◌, Bool, true, false, not, ◌&&◌, List, [], ◌∷◌, Option, Some, None, option_map, option_and_then, nat_lt, ◌==◌, if◌then◌else◌, take, drop, length, ◌<◌}
 use Rattle.std.specs.List.{prefix_len}
 use Rattle.std.specs.Char.{is_ascii_digit}
-use Rattle.kb_conf.specs.declared.bytes.TheConstants.{ZERO, QUOTE, DOLLAR, APOSTROPHE, OPEN_PARENTHESIS, CLOSE_PARENTHESIS, BACKSLASH, BACKQUOTE, OPEN_BRACE, CLOSE_BRACE, OPEN_BRACKET, CLOSE_BRACKET}
-use Rattle.kb_conf.specs.Bytes.{starts_name, continues_name, begins_expansion, stands_for_itself}
+use Rattle.kb_conf.specs.declared.bytes.TheConstants.{ZERO, QUOTE, DOLLAR, APOSTROPHE, OPEN_PARENTHESIS, CLOSE_PARENTHESIS, BACKSLASH, BACKQUOTE, OPEN_BRACE, CLOSE_BRACE, OPEN_BRACKET, CLOSE_BRACKET, LINE_FEED, SEMICOLON, HASH}
+use Rattle.kb_conf.specs.Bytes.{is_blank, starts_name, continues_name, begins_expansion, stands_for_itself}
+use Rattle.kb_conf.specs.declared.place.Place.{Place}
+use Rattle.kb_conf.specs.Place.{line_start, may_part, after_blank, after_semicolon}
 use Rattle.kb_conf.specs.Name.{Reference}
 use Rattle.kb_conf.specs.Piece.{Piece, Bare, Escaped, Single, Quote, Plain, Braced, Command, Backquoted, Dollar, Mode, depth_after, spell}
 
@@ -96,3 +98,13 @@ pub record IsNextPiece (m : Mode) (text : List ℕ) (p : Piece) (written rest : 
   pub found : piece_at m text ≡ Some (p, rest)
   pub spelled : written ≡ spell p
   pub shorter : length rest < length text
+
+-- a blank, a line's end, a ; or a comment that may stand here
+unfoldable pub plain_at : Place → List ℕ → Option (Place × List ℕ)
+plain_at place [] = None
+plain_at place (b ∷ bs) =
+    if is_blank b then Some (after_blank place, bs)
+    else if b == LINE_FEED then Some (line_start, bs)
+    else if b == SEMICOLON && may_part place.last then Some (after_semicolon place, bs)
+    else if b == HASH && place.spaced then Some (place, drop (prefix_len (λ c. not (c == LINE_FEED)) bs) bs)
+    else None

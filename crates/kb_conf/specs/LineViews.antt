@@ -5,6 +5,7 @@ use Rattle.std.specs.Borrow.{Bor}
 use Rattle.kb_conf.specs.Assignment.{Assignment}
 use Rattle.kb_conf.specs.Table.{view_assignment}
 use Rattle.kb_conf.specs.Line.{Step}
+use Rattle.kb_conf.specs.declared.place.Place.{Place}
 use Rattle.kb_conf.specs.declared.table.Assignment as code
 use Rattle.kb_conf.specs.declared.line.Step as code_step
 
@@ -16,3 +17,6 @@ view_step s = record { place = s.place; assigned = option_to_list (option_map vi
 
 abbrev pub step_view : Option code_step.Step → Option Step
 step_view o = option_map view_step o
+
+abbrev pub plain_view : Option (Place × Bor (List ℕ)) → Option (Place × List ℕ)
+plain_view o = option_map (λ (p : Place × Bor (List ℕ)). (p.0, p.1.now)) o

@@ -1,9 +1,10 @@
 //! Lines and the assignments in them.
 ghost use Rattle.std.specs.Prelude.{◌≡◌, IfOk, IfSome};
 ghost use Rattle.kb_conf.specs.GivenView.{view_given};
+ghost use Rattle.kb_conf.specs.Front.{plain_at};
 ghost use Rattle.kb_conf.specs.Line.{is_command, scope, AssignmentAt, IsStep};
 ghost use Rattle.kb_conf.specs.Only.{IsOnly};
-ghost use Rattle.kb_conf.specs.LineViews.{assignment_view, step_view};
+ghost use Rattle.kb_conf.specs.LineViews.{assignment_view, step_view, plain_view};
 
 use std::alloc::{AllocError, Global};
 
@@ -57,20 +58,14 @@ pub struct Step<'a> {
     pub rest: &'a [u8],
 }
 
-/// Reads the item at the front, if there is one that may stand here.
-pub fn read_step<'a>(
-    alloc: Global,
-    given: &Given<'_>,
-    earlier: &Table<'a>,
-    place: Place,
-    text: &'a [u8],
-) -> Result<Option<Step<'a>>, AllocError>
-    ensures { IfOk result (λ found. IsOnly (IsStep (scope (view_given given.now) earlier.now) place text.now) (step_view found)) }
+/// The blank, line end, `;` or comment at the front, if there is one that may stand here: where the
+/// next item stands, and what follows.
+#[tactic(auto, unfolding(crate::specs::Front::plain_at))]
+fn split_plain(place: Place, text: &[u8]) -> Option<(Place, &[u8])>
+    ensures { plain_view result ≡ plain_at place text.now }
 {
-    let Some((first, rest)) = text.split_first() else {
-        return Ok(None);
-    };
-    let plain = if is_blank(*first) {
+    let (first, rest) = text.split_first()?;
+    if is_blank(*first) {
         Some((place.after_blank(), rest))
     } else if *first == LINE_FEED {
         Some((LINE_START, rest))
@@ -81,9 +76,25 @@ pub fn read_step<'a>(
         Some((place, behind))
     } else {
         None
-    };
-    if let Some((place, rest)) = plain {
-        return Ok(Some(Step { place, assignment: None, rest }));
+    }
+}
+
+/// Reads the item at the front, if there is one that may stand here.
+pub fn read_step<'a>(
+    alloc: Global,
+    given: &Given<'_>,
+    earlier: &Table<'a>,
+    place: Place,
+    text: &'a [u8],
+) -> Result<Option<Step<'a>>, AllocError>
+    ensures { IfOk result (λ found. IsOnly (IsStep (scope (view_given given.now) earlier.now) place text.now) (step_view found)) }
+{
+    if let Some((place, rest)) = split_plain(place, text) {
+        return Ok(Some(Step {
+            place,
+            assignment: None,
+            rest,
+        }));
     }
     if !place.may_set() {
         return Ok(None);
@@ -91,6 +102,13 @@ pub fn read_step<'a>(
     let Some((assignment, rest)) = read_assignment(alloc, &*given, &*earlier, text)? else {
         return Ok(None);
     };
-    let place = Place { last: Last::Assignment, spaced: false };
-    Ok(Some(Step { place, assignment: Some(assignment), rest }))
+    let place = Place {
+        last: Last::Assignment,
+        spaced: false,
+    };
+    Ok(Some(Step {
+        place,
+        assignment: Some(assignment),
+        rest,
+    }))
 }
