@@ -6,3 +6,4 @@ pub mod PieceLaws
 pub mod TableLaws
 pub mod ValueLaws
 pub mod AssignmentLaws
+pub mod StepLaws
