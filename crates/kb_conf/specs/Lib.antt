@@ -11,3 +11,4 @@ pub mod GivenView
 pub mod Place
 pub mod Line
 pub mod LineViews
+pub mod Reading

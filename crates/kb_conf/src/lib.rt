@@ -7,6 +7,7 @@ mod line;
 mod name;
 mod piece;
 mod place;
+mod reading;
 mod spans;
 mod table;
 mod value;
