@@ -7,3 +7,4 @@ pub mod TableLaws
 pub mod ValueLaws
 pub mod AssignmentLaws
 pub mod StepLaws
+pub mod ReadingLaws

@@ -12,3 +12,4 @@ pub mod Place
 pub mod Line
 pub mod LineViews
 pub mod Reading
+pub mod Refusal

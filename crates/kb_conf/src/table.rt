@@ -1,5 +1,6 @@
 //! The assignments of a text, in order, and the last one of each name and number.
-ghost use Rattle.std.specs.Prelude.{◌≡◌, IfOk, ◌++◌, ◌∷◌, []};
+ghost use Rattle.std.specs.Prelude.{◌≡◌, IfOk, ◌++◌, ◌∷◌, [], option_map};
+ghost use Rattle.std.specs.Option.{option_to_list};
 ghost use Rattle.kb_conf.specs.Assignment.{last_value};
 ghost use Rattle.kb_conf.specs.Table.{view_assignment};
 ghost use Rattle.kb_conf.specs.Views.{rest_view};
@@ -63,5 +64,15 @@ impl<'a> Table<'a> {
         self.list.push(assignment)?;
         self.last.insert(key, index)?;
         Ok(self)
+    }
+
+    /// Adds the assignment, if there is one.
+    pub fn with_any(self, assignment: Option<Assignment<'a>>) -> Result<Self, AllocError>
+        ensures { IfOk result (λ t. t ≡ self.entry ++ option_to_list (option_map view_assignment assignment.entry)) }
+    {
+        match assignment {
+            Some(assignment) => self.with(assignment),
+            None => Ok(self),
+        }
     }
 }
