@@ -1,13 +1,16 @@
 -- A text is read item by item, as far as the grammar goes.
-use Rattle.std.proofs.Common.{◌≡◌, ℕ, ◌+◌, ◌-◌, ◌<◌, ◌≤◌, Bool, true, false, ◌&&◌, List, [], ◌∷◌, ◌++◌, length, refl, sym, ap, ◌∙◌, subst, arith, Option, Some, None, append_assoc, inl, inr, ◌⊎◌}
-use Rattle.std.proofs.lemmas.Bool.{and_parts, and_from}
+use Rattle.std.proofs.Common.{◌≡◌, ℕ, ◌+◌, ◌-◌, ◌<◌, ◌≤◌, Bool, true, false, ◌&&◌, List, [], ◌∷◌, ◌++◌, length, refl, sym, ap, ◌∙◌, subst, arith, Option, Some, None, append_assoc, inl, inr, ◌⊎◌, eqb, suc}
+use Rattle.std.proofs.lemmas.Bool.{and_parts, and_from, eqb-true, eqb-false}
 use Rattle.std.proofs.lemmas.List.{length-append}
 use Rattle.kb_conf.specs.declared.place.Place.{Place}
 use Rattle.kb_conf.specs.Assignment.{Assignment, Given}
 use Rattle.kb_conf.specs.Place.{line_start}
 use Rattle.kb_conf.specs.Only.{IsOnly}
 use Rattle.kb_conf.specs.Line.{Token, Step, IsStep, scope, spell_token, spell_tokens, is_token, may_stand, place_after, assigns, are_lines, assign_all}
-use Rattle.kb_conf.specs.Reading.{IsReading, IsGood, IsFurthest, sound_len}
+use Rattle.kb_conf.specs.Reading.{IsReading, IsGood, IsFurthest, IsBadLine, sound_len, line_of}
+use Rattle.kb_conf.specs.Refusal.{AtBadLine}
+use Rattle.kb_conf.specs.declared.reading.ReadError.{ReadError}
+use Rattle.kb_conf.specs.declared.reading.ReadError.TheVariants.{BadLine}
 
 -- a reading of what is left of a text, behind the assignments so far
 pub record Reads (g : Given) (earlier : List Assignment) (place : Place) (text : List ℕ) (all : List Assignment) (rest : List ℕ) : Type 0 where
@@ -111,3 +114,15 @@ broken g text earlier place rest step inv only unsound = record {
     least = λ others left r. elim (inv.back others left (as_reads g text others left r)) [ inl stopped ↦ stopped
         | inr on ↦ elim (behind_step g earlier place rest step others left only on) [ inl here ↦ (let n : length left ≡ length rest = ap length here in omega arith)
             | inr further ↦ absurd (omega (arith, shorter g (earlier ++ step.assigned) step.place step.rest others left further, reading_sound g text others left r)) ] ] }
+
+pub bad_at : (g : Given) (text rest : List ℕ) (refusal : ReadError) → IsFurthest g text rest → eqb (length rest) 0 ≡ false → refusal ≡ BadLine (line_of text rest) → AtBadLine (IsBadLine g text) refusal
+bad_at g text rest refusal furthest more e =
+    subst (λ (x : ReadError). AtBadLine (IsBadLine g text) x) (sym e) (record {
+        rest = rest;
+        furthest = furthest;
+        unread = λ none. eqb-false (length rest) 0 more (ap length none);
+        line_is = refl })
+
+pub ended : (rest : List ℕ) → eqb (length rest) 0 ≡ true → rest ≡ []
+ended [] h = refl
+ended (b ∷ bs) h = absurd (omega (arith, eqb-true (suc (length bs)) 0 h))
