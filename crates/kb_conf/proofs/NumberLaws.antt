@@ -57,27 +57,35 @@ digits_found (a ∷ b ∷ []) n all e =
     let ab = and_parts (is_ascii_digit a) (is_ascii_digit b && true) all in
     let in_a = digit_range a ab.0 in
     let in_b = digit_range b (and_parts (is_ascii_digit b) true ab.1).0 in
-    elim (chosen (eqb a 48) None (below_256 (10 * (a - 48) + (b - 48))) (Some n) e) [ inl w ↦ absurd (none-some n w.1) | inr w ↦
-        let s = small_found (10 * (a - 48) + (b - 48)) n w.1 in
-        let not_zero : a ≢ 48 = eqb-false a 48 w.0 in
-        let same_a : 48 + (a - 48) ≡ a = omega (arith, in_a.0) in
-        let same_b : 48 + (b - 48) ≡ b = omega (arith, in_b.0) in
-        (omega (arith, s.0, s.1),
-         sym (ap decimal (sym s.1) ∙ two_digits (a - 48) (b - 48) (omega (arith, in_a, not_zero)) (omega (arith, in_a)) (omega (arith, in_b)) ∙ rw (same_a, same_b) refl)) ]
+    elim (chosen (eqb a 48) None (below_256 (10 * (a - 48) + (b - 48))) (Some n) e) [
+      | inl w ↦ absurd (none-some n w.1)
+      | inr w ↦
+          let s = small_found (10 * (a - 48) + (b - 48)) n w.1 in
+          let not_zero : a ≢ 48 = eqb-false a 48 w.0 in
+          let same_a : 48 + (a - 48) ≡ a = omega (arith, in_a.0) in
+          let same_b : 48 + (b - 48) ≡ b = omega (arith, in_b.0) in (
+            omega (arith, s.0, s.1),
+            sym (ap decimal (sym s.1) ∙ two_digits (a - 48) (b - 48) (omega (arith, in_a, not_zero)) (omega (arith, in_a)) (omega (arith, in_b)) ∙ rw (same_a, same_b) refl),
+          )
+    ]
 digits_found (a ∷ b ∷ d ∷ []) n all e =
     let ab = and_parts (is_ascii_digit a) (is_ascii_digit b && (is_ascii_digit d && true)) all in
     let bd = and_parts (is_ascii_digit b) (is_ascii_digit d && true) ab.1 in
     let in_a = digit_range a ab.0 in
     let in_b = digit_range b bd.0 in
     let in_d = digit_range d (and_parts (is_ascii_digit d) true bd.1).0 in
-    elim (chosen (eqb a 48) None (below_256 (100 * (a - 48) + 10 * (b - 48) + (d - 48))) (Some n) e) [ inl w ↦ absurd (none-some n w.1) | inr w ↦
-        let s = small_found (100 * (a - 48) + 10 * (b - 48) + (d - 48)) n w.1 in
-        let not_zero : a ≢ 48 = eqb-false a 48 w.0 in
-        let same_a : 48 + (a - 48) ≡ a = omega (arith, in_a.0) in
-        let same_b : 48 + (b - 48) ≡ b = omega (arith, in_b.0) in
-        let same_d : 48 + (d - 48) ≡ d = omega (arith, in_d.0) in
-        (omega (arith, s.0, s.1),
-         sym (ap decimal (sym s.1) ∙ three_digits (a - 48) (b - 48) (d - 48) (omega (arith, in_a, not_zero)) (omega (arith, in_a)) (omega (arith, in_b)) (omega (arith, in_d)) ∙ rw (same_a, same_b, same_d) refl)) ]
+    elim (chosen (eqb a 48) None (below_256 (100 * (a - 48) + 10 * (b - 48) + (d - 48))) (Some n) e) [
+      | inl w ↦ absurd (none-some n w.1)
+      | inr w ↦
+          let s = small_found (100 * (a - 48) + 10 * (b - 48) + (d - 48)) n w.1 in
+          let not_zero : a ≢ 48 = eqb-false a 48 w.0 in
+          let same_a : 48 + (a - 48) ≡ a = omega (arith, in_a.0) in
+          let same_b : 48 + (b - 48) ≡ b = omega (arith, in_b.0) in
+          let same_d : 48 + (d - 48) ≡ d = omega (arith, in_d.0) in (
+            omega (arith, s.0, s.1),
+            sym (ap decimal (sym s.1) ∙ three_digits (a - 48) (b - 48) (d - 48) (omega (arith, in_a, not_zero)) (omega (arith, in_a)) (omega (arith, in_b)) (omega (arith, in_d)) ∙ rw (same_a, same_b, same_d) refl),
+          )
+    ]
 digits_found (a ∷ b ∷ d ∷ f ∷ more) n all e = absurd (none-some n e)
 
 small_again : (n : ℕ) → n < 256 → below_256 n ≡ Some n
@@ -112,18 +120,22 @@ moved : (ds es : List ℕ) (m n : ℕ) → es ≡ ds → n ≡ m → ReadAgain d
 moved ds es m n same_digits same_number r = record { digits = ap (list_all is_ascii_digit) same_digits ∙ r.digits; value = ap number_of same_digits ∙ r.value ∙ ap (λ (k : ℕ). Some k) (sym same_number) }
 
 digits_again : (n : ℕ) → n < 256 → ReadAgain (decimal n) n
-digits_again n h = elim (cases_lt n 10) [ inl one ↦
-        let digit = range_digit n one in
-        let value : 48 + n - 48 ≡ n = omega arith in
-        moved ((48 + n) ∷ []) (decimal n) n n (one_digit n one) refl (record { digits = rw digit refl; value = ap below_256 value ∙ small_again n h })
-    | inr more ↦ elim (cases_lt n 100) [ inl two ↦
+digits_again n h = elim (cases_lt n 10) [
+  | inl one ↦
+      let digit = range_digit n one in
+      let value : 48 + n - 48 ≡ n = omega arith in
+      moved ((48 + n) ∷ []) (decimal n) n n (one_digit n one) refl (record { digits = rw digit refl; value = ap below_256 value ∙ small_again n h })
+  | inr more ↦ elim (cases_lt n 100) [
+    | inl two ↦
         let split : n ≡ 10 * (n / 10) + n % 10 = omega arith in
         let text = ap decimal split ∙ two_digits (n / 10) (n % 10) (omega arith) (omega arith) (omega arith) in
         moved _ (decimal n) (10 * (n / 10) + n % 10) n text split (two_again (n / 10) (n % 10) (omega arith) (omega arith) (omega arith))
     | inr three ↦
         let split : n ≡ 100 * (n / 100) + 10 * (n / 10 % 10) + n % 10 = omega arith in
         let text = ap decimal split ∙ three_digits (n / 100) (n / 10 % 10) (n % 10) (omega arith) (omega arith) (omega arith) (omega arith) in
-        moved _ (decimal n) (100 * (n / 100) + 10 * (n / 10 % 10) + n % 10) n text split (three_again (n / 100) (n / 10 % 10) (n % 10) (omega arith) (omega arith) (omega arith) (omega arith) (omega arith)) ] ]
+        moved _ (decimal n) (100 * (n / 100) + 10 * (n / 10 % 10) + n % 10) n text split (three_again (n / 100) (n / 10 % 10) (n % 10) (omega arith) (omega arith) (omega arith) (omega arith) (omega arith))
+  ]
+]
 
 pub number_found : (text : List ℕ) (n : ℕ) (rest : List ℕ) → number_at text ≡ Some (n, rest) → (n < 256) × (text ≡ decimal n ++ rest)
 unfolding number_at

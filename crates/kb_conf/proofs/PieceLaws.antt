@@ -87,38 +87,51 @@ braced_found m text p rest e =
     let by_reference = reference_found text reference.0.0 reference.0.1 reference.1 in
     let behind = byte_found CLOSE_BRACE reference.0.1 close.0 close.1 in
     shifted m _ (Braced reference.0.0) p close.0 rest (record {
-        fitting = by_reference.0;
-        spelling = ap (λ x. DOLLAR ∷ OPEN_BRACE ∷ x) (by_reference.1 ∙ ap (λ x. spell_reference reference.0.0 ++ x) behind ∙ sym (enclosed CLOSE_BRACE (spell_reference reference.0.0) close.0)) }) close.2
+      fitting = by_reference.0;
+      spelling = ap (λ x. DOLLAR ∷ OPEN_BRACE ∷ x) (by_reference.1 ∙ ap (λ x. spell_reference reference.0.0 ++ x) behind ∙ sym (enclosed CLOSE_BRACE (spell_reference reference.0.0) close.0));
+    }) close.2
 
 command_found : (m : Mode) (text : List ℕ) (p : Piece) (rest : List ℕ) → cond m.command (option_map {U = Piece × List ℕ} (λ (found : List ℕ × List ℕ). (Command found.0, found.1)) (closing_at 0 text)) None ≡ Some (p, rest) → Spelled m (DOLLAR ∷ OPEN_PARENTHESIS ∷ text) p rest
 command_found m text p rest e =
-    elim (chosen m.command _ _ (Some (p, rest)) e) [ inl w ↦
-        let found = mapped (λ (found : List ℕ × List ℕ). (Command found.0, found.1)) (closing_at 0 text) (p, rest) w.1 in
-        let inside = closing_found 0 text found.0.0 found.0.1 found.1 in
-        shifted m _ (Command found.0.0) p found.0.1 rest (record {
+    elim (chosen m.command _ _ (Some (p, rest)) e) [
+      | inl w ↦
+          let found = mapped (λ (found : List ℕ × List ℕ). (Command found.0, found.1)) (closing_at 0 text) (p, rest) w.1 in
+          let inside = closing_found 0 text found.0.0 found.0.1 found.1 in
+          shifted m _ (Command found.0.0) p found.0.1 rest (record {
             fitting = and_from m.command (closes 0 found.0.0) w.0 inside.0;
-            spelling = ap (λ x. DOLLAR ∷ OPEN_PARENTHESIS ∷ x) (inside.1 ∙ sym (enclosed CLOSE_PARENTHESIS found.0.0 found.0.1)) }) (ap (λ (q : Piece × List ℕ). Some q) found.2)
-    | inr w ↦ absurd (none-some (p, rest) w.1) ]
+            spelling = ap (λ x. DOLLAR ∷ OPEN_PARENTHESIS ∷ x) (inside.1 ∙ sym (enclosed CLOSE_PARENTHESIS found.0.0 found.0.1));
+          }) (ap (λ (q : Piece × List ℕ). Some q) found.2)
+      | inr w ↦ absurd (none-some (p, rest) w.1)
+    ]
 
 plain_found : (m : Mode) (text : List ℕ) (p : Piece) (rest : List ℕ) → option_map {U = Piece × List ℕ} (λ (found : List ℕ × List ℕ). (Plain found.0, found.1)) (name_at text) ≡ Some (p, rest) → Spelled m (DOLLAR ∷ text) p rest
 plain_found m text p rest e =
     let found = mapped (λ (found : List ℕ × List ℕ). (Plain found.0, found.1)) (name_at text) (p, rest) e in
     let name = name_found text found.0.0 found.0.1 found.1 in
     shifted m _ (Plain found.0.0) p found.0.1 rest (record {
-        fitting = and_from (is_name found.0.0) (ends_name found.0.1) name.0 name.1;
-        spelling = ap (λ x. DOLLAR ∷ x) name.2 }) (ap (λ (q : Piece × List ℕ). Some q) found.2)
+      fitting = and_from (is_name found.0.0) (ends_name found.0.1) name.0 name.1;
+      spelling = ap (λ x. DOLLAR ∷ x) name.2;
+    }) (ap (λ (q : Piece × List ℕ). Some q) found.2)
 
 pub expansion_found : (m : Mode) (text : List ℕ) (p : Piece) (rest : List ℕ) → expansion_at m.command text ≡ Some (p, rest) → Spelled m (DOLLAR ∷ text) p rest
 unfolding expansion_at
 expansion_found m [] p rest e = shifted m (DOLLAR ∷ []) Dollar p [] rest (record { fitting = refl; spelling = refl }) e
 expansion_found m (b ∷ bs) p rest e =
-    elim (chosen (eqb b OPEN_BRACE) _ _ (Some (p, rest)) e) [ inl brace ↦
-        respelled m _ _ p rest (ap (λ x. DOLLAR ∷ x) (head_is b OPEN_BRACE bs brace.0)) (braced_found m bs p rest brace.1)
-    | inr no_brace ↦ elim (chosen (eqb b OPEN_PARENTHESIS) _ _ (Some (p, rest)) no_brace.1) [ inl parenthesis ↦
-        respelled m _ _ p rest (ap (λ x. DOLLAR ∷ x) (head_is b OPEN_PARENTHESIS bs parenthesis.0)) (command_found m bs p rest parenthesis.1)
-    | inr no_parenthesis ↦ elim (chosen (starts_name b) _ _ (Some (p, rest)) no_parenthesis.1) [ inl name ↦ plain_found m (b ∷ bs) p rest name.1
-    | inr no_name ↦ elim (chosen (begins_expansion b) _ _ (Some (p, rest)) no_name.1) [ inl other ↦ absurd (none-some (p, rest) other.1)
-    | inr lone ↦ shifted m _ Dollar p (b ∷ bs) rest (record { fitting = ap not lone.0; spelling = refl }) lone.1 ] ] ] ]
+    elim (chosen (eqb b OPEN_BRACE) _ _ (Some (p, rest)) e) [
+      | inl brace ↦
+          respelled m _ _ p rest (ap (λ x. DOLLAR ∷ x) (head_is b OPEN_BRACE bs brace.0)) (braced_found m bs p rest brace.1)
+      | inr no_brace ↦ elim (chosen (eqb b OPEN_PARENTHESIS) _ _ (Some (p, rest)) no_brace.1) [
+        | inl parenthesis ↦
+            respelled m _ _ p rest (ap (λ x. DOLLAR ∷ x) (head_is b OPEN_PARENTHESIS bs parenthesis.0)) (command_found m bs p rest parenthesis.1)
+        | inr no_parenthesis ↦ elim (chosen (starts_name b) _ _ (Some (p, rest)) no_parenthesis.1) [
+          | inl name ↦ plain_found m (b ∷ bs) p rest name.1
+          | inr no_name ↦ elim (chosen (begins_expansion b) _ _ (Some (p, rest)) no_name.1) [
+            | inl other ↦ absurd (none-some (p, rest) other.1)
+            | inr lone ↦ shifted m _ Dollar p (b ∷ bs) rest (record { fitting = ap not lone.0; spelling = refl }) lone.1
+          ]
+        ]
+      ]
+    ]
 
 escaped_found : (m : Mode) (text : List ℕ) (p : Piece) (rest : List ℕ) → escaped_at text ≡ Some (p, rest) → Spelled m (BACKSLASH ∷ text) p rest
 unfolding escaped_at
@@ -127,21 +140,25 @@ escaped_found m (b ∷ bs) p rest e = shifted m _ (Escaped b) p bs rest (record 
 
 backquoted_found : (m : Mode) (text : List ℕ) (p : Piece) (rest : List ℕ) → cond m.command (option_map {U = Piece × List ℕ} (λ (found : List ℕ × List ℕ). (Backquoted found.0, found.1)) (until_byte BACKQUOTE text)) None ≡ Some (p, rest) → Spelled m (BACKQUOTE ∷ text) p rest
 backquoted_found m text p rest e =
-    elim (chosen m.command _ _ (Some (p, rest)) e) [ inl w ↦
-        let found = mapped (λ (found : List ℕ × List ℕ). (Backquoted found.0, found.1)) (until_byte BACKQUOTE text) (p, rest) w.1 in
-        let inside = until_found BACKQUOTE text found.0.0 found.0.1 found.1 in
-        shifted m _ (Backquoted found.0.0) p found.0.1 rest (record {
+    elim (chosen m.command _ _ (Some (p, rest)) e) [
+      | inl w ↦
+          let found = mapped (λ (found : List ℕ × List ℕ). (Backquoted found.0, found.1)) (until_byte BACKQUOTE text) (p, rest) w.1 in
+          let inside = until_found BACKQUOTE text found.0.0 found.0.1 found.1 in
+          shifted m _ (Backquoted found.0.0) p found.0.1 rest (record {
             fitting = and_from m.command (lacks BACKQUOTE found.0.0) w.0 inside.0;
-            spelling = ap (λ x. BACKQUOTE ∷ x) (inside.1 ∙ sym (enclosed BACKQUOTE found.0.0 found.0.1)) }) (ap (λ (q : Piece × List ℕ). Some q) found.2)
-    | inr w ↦ absurd (none-some (p, rest) w.1) ]
+            spelling = ap (λ x. BACKQUOTE ∷ x) (inside.1 ∙ sym (enclosed BACKQUOTE found.0.0 found.0.1));
+          }) (ap (λ (q : Piece × List ℕ). Some q) found.2)
+      | inr w ↦ absurd (none-some (p, rest) w.1)
+    ]
 
 single_found : (m : Mode) (text : List ℕ) (p : Piece) (rest : List ℕ) → m.quoted ≡ false → option_map {U = Piece × List ℕ} (λ (found : List ℕ × List ℕ). (Single found.0, found.1)) (until_byte APOSTROPHE text) ≡ Some (p, rest) → Spelled m (APOSTROPHE ∷ text) p rest
 single_found m text p rest outside e =
     let found = mapped (λ (found : List ℕ × List ℕ). (Single found.0, found.1)) (until_byte APOSTROPHE text) (p, rest) e in
     let inside = until_found APOSTROPHE text found.0.0 found.0.1 found.1 in
     shifted m _ (Single found.0.0) p found.0.1 rest (record {
-        fitting = and_from (not m.quoted) (lacks APOSTROPHE found.0.0) (ap not outside) inside.0;
-        spelling = ap (λ x. APOSTROPHE ∷ x) (inside.1 ∙ sym (enclosed APOSTROPHE found.0.0 found.0.1)) }) (ap (λ (q : Piece × List ℕ). Some q) found.2)
+      fitting = and_from (not m.quoted) (lacks APOSTROPHE found.0.0) (ap not outside) inside.0;
+      spelling = ap (λ x. APOSTROPHE ∷ x) (inside.1 ∙ sym (enclosed APOSTROPHE found.0.0 found.0.1));
+    }) (ap (λ (q : Piece × List ℕ). Some q) found.2)
 
 -- inside double quotes an apostrophe stands for itself
 outside_quotes : (quoted : Bool) (b : ℕ) → eqb b APOSTROPHE ≡ true → stands_for_itself quoted b ≡ false → quoted ≡ false
@@ -152,19 +169,31 @@ pub piece_found : (m : Mode) (text : List ℕ) (p : Piece) (rest : List ℕ) →
 unfolding piece_at
 piece_found m [] p rest e = absurd (none-some (p, rest) e)
 piece_found m (b ∷ bs) p rest e =
-    elim (chosen (eqb b QUOTE) _ _ (Some (p, rest)) e) [ inl quote ↦
-        respelled m _ _ p rest (head_is b QUOTE bs quote.0) (shifted m _ Quote p bs rest (record { fitting = refl; spelling = refl }) quote.1)
-    | inr no_quote ↦ elim (chosen (eqb b BACKSLASH) _ _ (Some (p, rest)) no_quote.1) [ inl backslash ↦
-        respelled m _ _ p rest (head_is b BACKSLASH bs backslash.0) (escaped_found m bs p rest backslash.1)
-    | inr no_backslash ↦ elim (chosen (eqb b DOLLAR) _ _ (Some (p, rest)) no_backslash.1) [ inl dollar ↦
-        respelled m _ _ p rest (head_is b DOLLAR bs dollar.0) (expansion_found m bs p rest dollar.1)
-    | inr no_dollar ↦ elim (chosen (eqb b BACKQUOTE) _ _ (Some (p, rest)) no_dollar.1) [ inl backquote ↦
-        respelled m _ _ p rest (head_is b BACKQUOTE bs backquote.0) (backquoted_found m bs p rest backquote.1)
-    | inr no_backquote ↦ elim (chosen (stands_for_itself m.quoted b) _ _ (Some (p, rest)) no_backquote.1) [ inl bare ↦
-        shifted m _ (Bare b) p bs rest (record { fitting = bare.0; spelling = refl }) bare.1
-    | inr not_bare ↦ elim (chosen (eqb b APOSTROPHE) _ _ (Some (p, rest)) not_bare.1) [ inl apostrophe ↦
-        respelled m _ _ p rest (head_is b APOSTROPHE bs apostrophe.0) (single_found m bs p rest (outside_quotes m.quoted b apostrophe.0 not_bare.0) apostrophe.1)
-    | inr other ↦ absurd (none-some (p, rest) other.1) ] ] ] ] ] ]
+    elim (chosen (eqb b QUOTE) _ _ (Some (p, rest)) e) [
+      | inl quote ↦
+          respelled m _ _ p rest (head_is b QUOTE bs quote.0) (shifted m _ Quote p bs rest (record { fitting = refl; spelling = refl }) quote.1)
+      | inr no_quote ↦ elim (chosen (eqb b BACKSLASH) _ _ (Some (p, rest)) no_quote.1) [
+        | inl backslash ↦
+            respelled m _ _ p rest (head_is b BACKSLASH bs backslash.0) (escaped_found m bs p rest backslash.1)
+        | inr no_backslash ↦ elim (chosen (eqb b DOLLAR) _ _ (Some (p, rest)) no_backslash.1) [
+          | inl dollar ↦
+              respelled m _ _ p rest (head_is b DOLLAR bs dollar.0) (expansion_found m bs p rest dollar.1)
+          | inr no_dollar ↦ elim (chosen (eqb b BACKQUOTE) _ _ (Some (p, rest)) no_dollar.1) [
+            | inl backquote ↦
+                respelled m _ _ p rest (head_is b BACKQUOTE bs backquote.0) (backquoted_found m bs p rest backquote.1)
+            | inr no_backquote ↦ elim (chosen (stands_for_itself m.quoted b) _ _ (Some (p, rest)) no_backquote.1) [
+              | inl bare ↦
+                  shifted m _ (Bare b) p bs rest (record { fitting = bare.0; spelling = refl }) bare.1
+              | inr not_bare ↦ elim (chosen (eqb b APOSTROPHE) _ _ (Some (p, rest)) not_bare.1) [
+                | inl apostrophe ↦
+                    respelled m _ _ p rest (head_is b APOSTROPHE bs apostrophe.0) (single_found m bs p rest (outside_quotes m.quoted b apostrophe.0 not_bare.0) apostrophe.1)
+                | inr other ↦ absurd (none-some (p, rest) other.1)
+              ]
+            ]
+          ]
+        ]
+      ]
+    ]
 
 spelled_out : (p : Piece) → 0 < length (spell p)
 spelled_out (Bare b) = omega arith
@@ -190,6 +219,7 @@ piece_next m text p written rest e w =
     let whole : length text ≡ length (spell p) + length rest = ap length s.spelling ∙ length-append (spell p) rest in
     let n : length text - length rest ≡ length (spell p) = omega arith in
     record {
-        found = e;
-        spelled = w ∙ ap (λ k. take k text) n ∙ ap (take (length (spell p))) s.spelling ∙ take_at (spell p) rest (length (spell p)) refl;
-        shorter = piece_shortens m text p rest e }
+      found = e;
+      spelled = w ∙ ap (λ k. take k text) n ∙ ap (take (length (spell p))) s.spelling ∙ take_at (spell p) rest (length (spell p)) refl;
+      shorter = piece_shortens m text p rest e;
+    }

@@ -27,12 +27,13 @@ with_step g earlier place text step all rest s r =
     let t = s.token in
     let here = spell_tokens r.tokens ++ rest in
     record {
-        tokens = t ∷ r.tokens;
-        spelled = s.spelled ∙ ap (λ x. spell_token t ++ x) r.spelled ∙ sym (append_assoc (spell_token t) (spell_tokens r.tokens) rest);
-        lines = and_from _ _
-            (and_from (may_stand place t) (is_token (scope g earlier) t here) s.stands (ap (is_token (scope g earlier) t) (sym r.spelled) ∙ s.whole))
-            (ap (λ (x : List Assignment). are_lines g (earlier ++ x) (place_after place t) r.tokens rest) (sym s.assignments) ∙ ap (λ (x : Place). are_lines g (earlier ++ step.assigned) x r.tokens rest) (sym s.next_place) ∙ r.lines);
-        made = r.made ∙ ap (λ (x : List Assignment). assign_all g (earlier ++ x) r.tokens) s.assignments }
+      tokens = t ∷ r.tokens;
+      spelled = s.spelled ∙ ap (λ x. spell_token t ++ x) r.spelled ∙ sym (append_assoc (spell_token t) (spell_tokens r.tokens) rest);
+      lines = and_from _ _
+          (and_from (may_stand place t) (is_token (scope g earlier) t here) s.stands (ap (is_token (scope g earlier) t) (sym r.spelled) ∙ s.whole))
+          (ap (λ (x : List Assignment). are_lines g (earlier ++ x) (place_after place t) r.tokens rest) (sym s.assignments) ∙ ap (λ (x : Place). are_lines g (earlier ++ step.assigned) x r.tokens rest) (sym s.next_place) ∙ r.lines);
+      made = r.made ∙ ap (λ (x : List Assignment). assign_all g (earlier ++ x) r.tokens) s.assignments;
+    }
 
 -- a reading stops here or takes the one step that there is
 pub behind_step : (g : Given) (earlier : List Assignment) (place : Place) (text : List ℕ) (step : Step) (all : List Assignment) (rest : List ℕ) → IsOnly (IsStep (scope g earlier) place text) (Some step) → Reads g earlier place text all rest → (rest ≡ text) ⊎ Reads g (earlier ++ step.assigned) step.place step.rest all rest
@@ -57,7 +58,7 @@ no_step g earlier place text all rest none r = by_tokens r.tokens r.spelled r.li
         let both = and_parts _ (are_lines g (earlier ++ assigns (scope g earlier) t) (place_after place t) ts rest) lines in
         let first = and_parts (may_stand place t) (is_token (scope g earlier) t (spell_tokens ts ++ rest)) both.0 in
         absurd (none (record { place = place_after place t; assigned = assigns (scope g earlier) t; rest = spell_tokens ts ++ rest })
-            (record { token = t; spelled = spelled ∙ append_assoc (spell_token t) (spell_tokens ts) rest; stands = first.0; whole = first.1; next_place = refl; assignments = refl }))
+        (record { token = t; spelled = spelled ∙ append_assoc (spell_token t) (spell_tokens ts) rest; stands = first.0; whole = first.1; next_place = refl; assignments = refl }))
 
 pub shorter : (g : Given) (earlier : List Assignment) (place : Place) (text : List ℕ) (all : List Assignment) (rest : List ℕ) → Reads g earlier place text all rest → length rest ≤ length text
 shorter g earlier place text all rest r = let n : length text ≡ length (spell_tokens r.tokens) + length rest = ap length r.spelled ∙ length-append (spell_tokens r.tokens) rest in omega arith
@@ -78,11 +79,14 @@ so_far_step g text earlier place rest step inv only sound =
     let one = with_step g earlier place rest step (earlier ++ step.assigned) step.rest only.0 (stop g (earlier ++ step.assigned) step.place step.rest) in
     let less = shorter g earlier place rest (earlier ++ step.assigned) step.rest one in
     record {
-        forth = λ all left r. inv.forth all left (with_step g earlier place rest step all left only.0 r);
-        back = λ all left r. elim (inv.back all left r) [ inl stopped ↦ inl (omega arith)
-            | inr on ↦ elim (behind_step g earlier place rest step all left only on) [ inl here ↦ inl (let n : length left ≡ length rest = ap length here in omega arith) | inr further ↦ inr further ] ];
-        within = omega (arith, inv.within);
-        sound = sound }
+      forth = λ all left r. inv.forth all left (with_step g earlier place rest step all left only.0 r);
+      back = λ all left r. elim (inv.back all left r) [
+        | inl stopped ↦ inl (omega arith)
+        | inr on ↦ elim (behind_step g earlier place rest step all left only on) [ inl here ↦ inl (let n : length left ≡ length rest = ap length here in omega arith) | inr further ↦ inr further ]
+      ];
+      within = omega (arith, inv.within);
+      sound = sound;
+    }
 
 as_reads : (g : Given) (text : List ℕ) (all : List Assignment) (left : List ℕ) → IsReading g text all left → Reads g [] line_start text all left
 as_reads g text all left r = record { tokens = r.tokens; spelled = r.spelled; lines = r.lines; made = r.made }
@@ -102,26 +106,35 @@ good g text all place rest inv ended = subst (λ (x : List ℕ). IsReading g tex
 
 pub stuck : (g : Given) (text : List ℕ) (earlier : List Assignment) (place : Place) (rest : List ℕ) → SoFar g text earlier place rest → ((y : Step) → IsStep (scope g earlier) place rest y → ⊥) → IsFurthest g text rest
 stuck g text earlier place rest inv none = record {
-    assignments = earlier;
-    reading = as_reading g text earlier rest (inv.forth earlier rest (stop g earlier place rest)) inv.sound;
-    least = λ others left r. elim (inv.back others left (as_reads g text others left r)) [ inl stopped ↦ stopped
-        | inr on ↦ let n : length left ≡ length rest = ap length (no_step g earlier place rest others left none on) in omega arith ] }
+  assignments = earlier;
+  reading = as_reading g text earlier rest (inv.forth earlier rest (stop g earlier place rest)) inv.sound;
+  least = λ others left r. elim (inv.back others left (as_reads g text others left r)) [
+    | inl stopped ↦ stopped
+    | inr on ↦ let n : length left ≡ length rest = ap length (no_step g earlier place rest others left none on) in omega arith
+  ];
+}
 
 pub broken : (g : Given) (text : List ℕ) (earlier : List Assignment) (place : Place) (rest : List ℕ) (step : Step) → SoFar g text earlier place rest → IsOnly (IsStep (scope g earlier) place rest) (Some step) → sound_len text + length step.rest < length text → IsFurthest g text rest
 broken g text earlier place rest step inv only unsound = record {
-    assignments = earlier;
-    reading = as_reading g text earlier rest (inv.forth earlier rest (stop g earlier place rest)) inv.sound;
-    least = λ others left r. elim (inv.back others left (as_reads g text others left r)) [ inl stopped ↦ stopped
-        | inr on ↦ elim (behind_step g earlier place rest step others left only on) [ inl here ↦ (let n : length left ≡ length rest = ap length here in omega arith)
-            | inr further ↦ absurd (omega (arith, shorter g (earlier ++ step.assigned) step.place step.rest others left further, reading_sound g text others left r)) ] ] }
+  assignments = earlier;
+  reading = as_reading g text earlier rest (inv.forth earlier rest (stop g earlier place rest)) inv.sound;
+  least = λ others left r. elim (inv.back others left (as_reads g text others left r)) [
+    | inl stopped ↦ stopped
+    | inr on ↦ elim (behind_step g earlier place rest step others left only on) [
+      | inl here ↦ (let n : length left ≡ length rest = ap length here in omega arith)
+      | inr further ↦ absurd (omega (arith, shorter g (earlier ++ step.assigned) step.place step.rest others left further, reading_sound g text others left r))
+    ]
+  ];
+}
 
 pub bad_at : (g : Given) (text rest : List ℕ) (refusal : ReadError) → IsFurthest g text rest → eqb (length rest) 0 ≡ false → refusal ≡ BadLine (line_of text rest) → AtBadLine (IsBadLine g text) refusal
 bad_at g text rest refusal furthest more e =
     subst (λ (x : ReadError). AtBadLine (IsBadLine g text) x) (sym e) (record {
-        rest = rest;
-        furthest = furthest;
-        unread = λ none. eqb-false (length rest) 0 more (ap length none);
-        line_is = refl })
+      rest = rest;
+      furthest = furthest;
+      unread = λ none. eqb-false (length rest) 0 more (ap length none);
+      line_is = refl;
+    })
 
 pub ended : (rest : List ℕ) → eqb (length rest) 0 ≡ true → rest ≡ []
 ended [] h = refl

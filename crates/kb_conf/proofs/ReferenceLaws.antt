@@ -39,14 +39,17 @@ pub subscript_found : (text : List ℕ) (number : Option ℕ) (rest : List ℕ) 
 unfolding subscript_at
 subscript_found [] number rest e = no_subscript [] rest number (same_Some {A = Option ℕ × List ℕ} (None, []) (number, rest) e)
 subscript_found (b ∷ bs) number rest e =
-    elim (chosen (eqb b OPEN_BRACKET) _ _ (Some (number, rest)) e) [ inl w ↦
-        let m = mapped (λ (found : ℕ × List ℕ). (Some found.0, found.1)) (bracketed_at bs) (number, rest) w.1 in
-        let inside = bracketed_found bs m.0.0 m.0.1 m.1 in
-        (ap (λ (q : Option ℕ × List ℕ). is_number q.0) (sym m.2) ∙ lt-ltb m.0.0 256 inside.0,
-         joined (b ∷ []) (OPEN_BRACKET ∷ []) bs (decimal m.0.0 ++ (CLOSE_BRACKET ∷ m.0.1)) (ap (λ x. x ∷ []) (eqb-true b OPEN_BRACKET w.0)) inside.1
-         ∙ ap (λ x. OPEN_BRACKET ∷ x) (sym (seam m.0.0 m.0.1))
-         ∙ ap (λ (q : Option ℕ × List ℕ). subscript q.0 ++ q.1) m.2)
-    | inr w ↦ no_subscript (b ∷ bs) rest number (same_Some {A = Option ℕ × List ℕ} (None, b ∷ bs) (number, rest) w.1) ]
+    elim (chosen (eqb b OPEN_BRACKET) _ _ (Some (number, rest)) e) [
+      | inl w ↦
+          let m = mapped (λ (found : ℕ × List ℕ). (Some found.0, found.1)) (bracketed_at bs) (number, rest) w.1 in
+          let inside = bracketed_found bs m.0.0 m.0.1 m.1 in (
+            ap (λ (q : Option ℕ × List ℕ). is_number q.0) (sym m.2) ∙ lt-ltb m.0.0 256 inside.0,
+            joined (b ∷ []) (OPEN_BRACKET ∷ []) bs (decimal m.0.0 ++ (CLOSE_BRACKET ∷ m.0.1)) (ap (λ x. x ∷ []) (eqb-true b OPEN_BRACKET w.0)) inside.1
+                ∙ ap (λ x. OPEN_BRACKET ∷ x) (sym (seam m.0.0 m.0.1))
+                ∙ ap (λ (q : Option ℕ × List ℕ). subscript q.0 ++ q.1) m.2,
+          )
+      | inr w ↦ no_subscript (b ∷ bs) rest number (same_Some {A = Option ℕ × List ℕ} (None, b ∷ bs) (number, rest) w.1)
+    ]
 
 pub subscript_again : (number : Option ℕ) (rest : List ℕ) → is_number number ≡ true → stops (λ b. eqb b OPEN_BRACKET) rest ≡ true → subscript_at (subscript number ++ rest) ≡ Some (number, rest)
 unfolding subscript_at
@@ -62,10 +65,11 @@ reference_found text r rest e =
     let made : Reference = record { name = name.0.0; number = number.0.0 } in
     let pair : ◌≡◌ {A = Reference × List ℕ} (made, number.0.1) (r, rest) = same_Some {A = Reference × List ℕ} (made, number.0.1) (r, rest) number.2 in
     let by_name = name_found text name.0.0 name.0.1 name.1 in
-    let by_number = subscript_found name.0.1 number.0.0 number.0.1 number.1 in
-    (ap (λ (q : Reference × List ℕ). is_reference q.0) (sym pair) ∙ and_from (is_name name.0.0) (is_number number.0.0) by_name.0 by_number.0,
-     by_name.2 ∙ ap (λ x. name.0.0 ++ x) by_number.1 ∙ sym (append_assoc name.0.0 (subscript number.0.0) number.0.1)
-     ∙ ap (λ (q : Reference × List ℕ). spell_reference q.0 ++ q.1) pair)
+    let by_number = subscript_found name.0.1 number.0.0 number.0.1 number.1 in (
+      ap (λ (q : Reference × List ℕ). is_reference q.0) (sym pair) ∙ and_from (is_name name.0.0) (is_number number.0.0) by_name.0 by_number.0,
+      by_name.2 ∙ ap (λ x. name.0.0 ++ x) by_number.1 ∙ sym (append_assoc name.0.0 (subscript number.0.0) number.0.1)
+          ∙ ap (λ (q : Reference × List ℕ). spell_reference q.0 ++ q.1) pair,
+    )
 
 name_ends : (number : Option ℕ) (rest : List ℕ) → ends_name rest ≡ true → ends_name (subscript number ++ rest) ≡ true
 name_ends None rest h = h

@@ -87,10 +87,11 @@ name_found (b ∷ bs) name rest e =
     let n = prefix_len continues_name bs in
     let picked = cond_some (starts_name b) (b ∷ take n bs, drop n bs) (name, rest) e in
     let same_name : b ∷ take n bs ≡ name = ap (λ (q : List ℕ × List ℕ). q.0) picked.1 in
-    let same_rest : drop n bs ≡ rest = ap (λ (q : List ℕ × List ℕ). q.1) picked.1 in
-    (ap is_name (sym same_name) ∙ and_from (starts_name b) (list_all continues_name (take n bs)) picked.0 (passes_front continues_name bs),
-     ap ends_name (sym same_rest) ∙ ends_from_stops (drop n bs) (stops_behind_front continues_name bs),
-     ap (λ r. b ∷ r) (sym (take-append-drop n bs)) ∙ joined (b ∷ take n bs) name (drop n bs) rest same_name same_rest)
+    let same_rest : drop n bs ≡ rest = ap (λ (q : List ℕ × List ℕ). q.1) picked.1 in (
+      ap is_name (sym same_name) ∙ and_from (starts_name b) (list_all continues_name (take n bs)) picked.0 (passes_front continues_name bs),
+      ap ends_name (sym same_rest) ∙ ends_from_stops (drop n bs) (stops_behind_front continues_name bs),
+      ap (λ r. b ∷ r) (sym (take-append-drop n bs)) ∙ joined (b ∷ take n bs) name (drop n bs) rest same_name same_rest,
+    )
 
 pub name_again : (name rest : List ℕ) → is_name name ≡ true → ends_name rest ≡ true → name_at (name ++ rest) ≡ Some (name, rest)
 unfolding name_at
@@ -103,18 +104,22 @@ name_again (b ∷ bs) rest h end =
 pub closing_found : (depth : ℕ) (text inside rest : List ℕ) → closing_at depth text ≡ Some (inside, rest) → (closes depth inside ≡ true) × (text ≡ inside ++ (CLOSE_PARENTHESIS ∷ rest))
 closing_found depth [] inside rest e = absurd (cc)
 closing_found depth (b ∷ bs) inside rest e =
-    elim (chosen (eqb b CLOSE_PARENTHESIS && eqb depth 0) (Some ([], bs)) _ (Some (inside, rest)) e) [ inl w ↦
-        let parts = some_pair_parts [] inside bs rest w.1 in
-        let here = and_parts (eqb b CLOSE_PARENTHESIS) (eqb depth 0) w.0 in
-        (ap (closes depth) (sym parts.0) ∙ here.1,
-         joined (b ∷ []) (CLOSE_PARENTHESIS ∷ []) bs rest (ap (λ x. x ∷ []) (eqb-true b CLOSE_PARENTHESIS here.0)) parts.1 ∙ ap (λ x. x ++ (CLOSE_PARENTHESIS ∷ rest)) parts.0)
-    | inr w ↦
-        let m = mapped (λ (found : List ℕ × List ℕ). (b ∷ found.0, found.1)) (closing_at (depth_after depth b) bs) (inside, rest) w.1 in
-        let later = closing_found (depth_after depth b) bs m.0.0 m.0.1 m.1 in
-        let same_inside : b ∷ m.0.0 ≡ inside = ap (λ (q : List ℕ × List ℕ). q.0) m.2 in
-        let same_rest : m.0.1 ≡ rest = ap (λ (q : List ℕ × List ℕ). q.1) m.2 in
-        (ap (closes depth) (sym same_inside) ∙ and_from _ _ (ap not w.0) later.0,
-         ap (λ x. b ∷ x) later.1 ∙ joined (b ∷ m.0.0) inside (CLOSE_PARENTHESIS ∷ m.0.1) (CLOSE_PARENTHESIS ∷ rest) same_inside (ap (λ x. CLOSE_PARENTHESIS ∷ x) same_rest)) ]
+    elim (chosen (eqb b CLOSE_PARENTHESIS && eqb depth 0) (Some ([], bs)) _ (Some (inside, rest)) e) [
+      | inl w ↦
+          let parts = some_pair_parts [] inside bs rest w.1 in
+          let here = and_parts (eqb b CLOSE_PARENTHESIS) (eqb depth 0) w.0 in (
+            ap (closes depth) (sym parts.0) ∙ here.1,
+            joined (b ∷ []) (CLOSE_PARENTHESIS ∷ []) bs rest (ap (λ x. x ∷ []) (eqb-true b CLOSE_PARENTHESIS here.0)) parts.1 ∙ ap (λ x. x ++ (CLOSE_PARENTHESIS ∷ rest)) parts.0,
+          )
+      | inr w ↦
+          let m = mapped (λ (found : List ℕ × List ℕ). (b ∷ found.0, found.1)) (closing_at (depth_after depth b) bs) (inside, rest) w.1 in
+          let later = closing_found (depth_after depth b) bs m.0.0 m.0.1 m.1 in
+          let same_inside : b ∷ m.0.0 ≡ inside = ap (λ (q : List ℕ × List ℕ). q.0) m.2 in
+          let same_rest : m.0.1 ≡ rest = ap (λ (q : List ℕ × List ℕ). q.1) m.2 in (
+            ap (closes depth) (sym same_inside) ∙ and_from _ _ (ap not w.0) later.0,
+            ap (λ x. b ∷ x) later.1 ∙ joined (b ∷ m.0.0) inside (CLOSE_PARENTHESIS ∷ m.0.1) (CLOSE_PARENTHESIS ∷ rest) same_inside (ap (λ x. CLOSE_PARENTHESIS ∷ x) same_rest),
+          )
+    ]
 
 pub closing_again : (depth : ℕ) (inside rest : List ℕ) → closes depth inside ≡ true → closing_at depth (inside ++ (CLOSE_PARENTHESIS ∷ rest)) ≡ Some (inside, rest)
 closing_again depth [] rest h = rw h refl

@@ -72,25 +72,34 @@ pub plain_found : (s : Scope) (place : Place) (text : List ℕ) (next : Place) (
 unfolding plain_at
 plain_found s place [] next rest e = absurd (none-some (next, rest) e)
 plain_found s place (b ∷ bs) next rest e =
-    elim (chosen (is_blank b) _ _ (Some (next, rest)) e) [ inl blank ↦
-        moved_step s place _ _ next _ rest blank.1 (record { token = Blank b; spelled = refl; stands = refl; whole = blank.0; next_place = refl; assignments = refl })
-    | inr no_blank ↦ elim (chosen (eqb b LINE_FEED) _ _ (Some (next, rest)) no_blank.1) [ inl line_end ↦
-        moved_step s place _ _ next _ rest line_end.1 (record { token = LineEnd; spelled = head_is b LINE_FEED bs line_end.0; stands = refl; whole = refl; next_place = refl; assignments = refl })
-    | inr no_line_end ↦ elim (chosen (eqb b SEMICOLON && may_part place.last) _ _ (Some (next, rest)) no_line_end.1) [ inl semicolon ↦
-        let parts = and_parts (eqb b SEMICOLON) (may_part place.last) semicolon.0 in
-        moved_step s place _ _ next _ rest semicolon.1 (record { token = Semicolon; spelled = head_is b SEMICOLON bs parts.0; stands = parts.1; whole = refl; next_place = refl; assignments = refl })
-    | inr no_semicolon ↦ elim (chosen (eqb b HASH && place.spaced) _ _ (Some (next, rest)) no_semicolon.1) [ inl comment ↦
-        let parts = and_parts (eqb b HASH) place.spaced comment.0 in
-        let p : ℕ → Bool = λ c. not (eqb c LINE_FEED) in
-        let n = prefix_len p bs in
-        moved_step s place _ _ next _ rest comment.1 (record {
-            token = Comment (take n bs);
-            spelled = head_is b HASH bs parts.0 ∙ ap (λ x. HASH ∷ x) (sym (take-append-drop n bs));
-            stands = parts.1;
-            whole = and_from (lacks LINE_FEED (take n bs)) (ends_line (drop n bs)) (passes_front p bs) (ends_stopped (drop n bs) (stops_behind_front p bs));
-            next_place = refl;
-            assignments = refl })
-    | inr other ↦ absurd (none-some (next, rest) other.1) ] ] ] ]
+    elim (chosen (is_blank b) _ _ (Some (next, rest)) e) [
+      | inl blank ↦
+          moved_step s place _ _ next _ rest blank.1 (record { token = Blank b; spelled = refl; stands = refl; whole = blank.0; next_place = refl; assignments = refl })
+      | inr no_blank ↦ elim (chosen (eqb b LINE_FEED) _ _ (Some (next, rest)) no_blank.1) [
+        | inl line_end ↦
+            moved_step s place _ _ next _ rest line_end.1 (record { token = LineEnd; spelled = head_is b LINE_FEED bs line_end.0; stands = refl; whole = refl; next_place = refl; assignments = refl })
+        | inr no_line_end ↦ elim (chosen (eqb b SEMICOLON && may_part place.last) _ _ (Some (next, rest)) no_line_end.1) [
+          | inl semicolon ↦
+              let parts = and_parts (eqb b SEMICOLON) (may_part place.last) semicolon.0 in
+              moved_step s place _ _ next _ rest semicolon.1 (record { token = Semicolon; spelled = head_is b SEMICOLON bs parts.0; stands = parts.1; whole = refl; next_place = refl; assignments = refl })
+          | inr no_semicolon ↦ elim (chosen (eqb b HASH && place.spaced) _ _ (Some (next, rest)) no_semicolon.1) [
+            | inl comment ↦
+                let parts = and_parts (eqb b HASH) place.spaced comment.0 in
+                let p : ℕ → Bool = λ c. not (eqb c LINE_FEED) in
+                let n = prefix_len p bs in
+                moved_step s place _ _ next _ rest comment.1 (record {
+                  token = Comment (take n bs);
+                  spelled = head_is b HASH bs parts.0 ∙ ap (λ x. HASH ∷ x) (sym (take-append-drop n bs));
+                  stands = parts.1;
+                  whole = and_from (lacks LINE_FEED (take n bs)) (ends_line (drop n bs)) (passes_front p bs) (ends_stopped (drop n bs) (stops_behind_front p bs));
+                  next_place = refl;
+                  assignments = refl;
+                })
+            | inr other ↦ absurd (none-some (next, rest) other.1)
+          ]
+        ]
+      ]
+    ]
 
 abbrev step_of : Place → List Assignment → List ℕ → Step
 step_of place assigned rest = record { place = place; assigned = assigned; rest = rest }
@@ -101,11 +110,16 @@ same_step a place assigned rest e f g =
 
 -- where another item was found, it is the only one
 pub the_plain : (s : Scope) (place : Place) (text : List ℕ) (next : Place) (rest : List ℕ) → plain_at place text ≡ Some (next, rest) → IsOnly (IsStep s place text) (Some (plain_step next rest))
-the_plain s place text next rest e = (plain_found s place text next rest e, λ y h.
-    elim (plain_again s place h.token y.rest h.stands h.whole) [ inl again ↦
-        let pair = some_pair_parts (place_after place h.token) next y.rest rest (sym again.0 ∙ ap (plain_at place) (sym h.spelled) ∙ e) in
-        same_step y next [] rest (h.next_place ∙ pair.0) (h.assignments ∙ again.1) pair.1
-    | inr set ↦ absurd (none-some (next, rest) (sym (ap (plain_at place) (h.spelled ∙ ap (λ t. spell_token t ++ y.rest) set.1) ∙ no_plain_item s place set.0 y.rest (ap (λ t. is_token s t y.rest) (sym set.1) ∙ h.whole)) ∙ e)) ])
+the_plain s place text next rest e = (
+  plain_found s place text next rest e,
+  λ y h.
+      elim (plain_again s place h.token y.rest h.stands h.whole) [
+        | inl again ↦
+            let pair = some_pair_parts (place_after place h.token) next y.rest rest (sym again.0 ∙ ap (plain_at place) (sym h.spelled) ∙ e) in
+            same_step y next [] rest (h.next_place ∙ pair.0) (h.assignments ∙ again.1) pair.1
+        | inr set ↦ absurd (none-some (next, rest) (sym (ap (plain_at place) (h.spelled ∙ ap (λ t. spell_token t ++ y.rest) set.1) ∙ no_plain_item s place set.0 y.rest (ap (λ t. is_token s t y.rest) (sym set.1) ∙ h.whole)) ∙ e))
+      ],
+)
 
 -- where no other item was found, an assignment is the only one that may stand
 pub record Sets (s : Scope) (place : Place) (text : List ℕ) (y : Step) : Type 0 where
@@ -116,28 +130,34 @@ pub record Sets (s : Scope) (place : Place) (text : List ℕ) (y : Step) : Type 
 
 pub step_sets : (s : Scope) (place : Place) (text : List ℕ) → plain_at place text ≡ None → (y : Step) → IsStep s place text y → Sets s place text y
 step_sets s place text none y h =
-    elim (plain_again s place h.token y.rest h.stands h.whole) [ inl again ↦
-        absurd (none-some (place_after place h.token, y.rest) (sym none ∙ ap (plain_at place) h.spelled ∙ again.0))
-    | inr set ↦ record {
+    elim (plain_again s place h.token y.rest h.stands h.whole) [
+      | inl again ↦
+          absurd (none-some (place_after place h.token, y.rest) (sym none ∙ ap (plain_at place) h.spelled ∙ again.0))
+      | inr set ↦ record {
         stands = ap (may_stand place) (sym set.1) ∙ h.stands;
         made = assigned s set.0;
         read = record {
-            item = set.0;
-            spelled = h.spelled ∙ ap (λ t. spell_token t ++ y.rest) set.1;
-            whole = ap (λ t. is_token s t y.rest) (sym set.1) ∙ h.whole;
-            made = refl };
-        step = same_step y after_assignment (assigned s set.0 ∷ []) y.rest (h.next_place ∙ ap (place_after place) set.1) (h.assignments ∙ ap (assigns s) set.1) refl } ]
+          item = set.0;
+          spelled = h.spelled ∙ ap (λ t. spell_token t ++ y.rest) set.1;
+          whole = ap (λ t. is_token s t y.rest) (sym set.1) ∙ h.whole;
+          made = refl;
+        };
+        step = same_step y after_assignment (assigned s set.0 ∷ []) y.rest (h.next_place ∙ ap (place_after place) set.1) (h.assignments ∙ ap (assigns s) set.1) refl;
+      }
+    ]
 
 pub the_set : (s : Scope) (place : Place) (text : List ℕ) (a : Assignment) (rest : List ℕ) → plain_at place text ≡ None → may_set place.last place.spaced ≡ true → IsOnly (AssignmentAt s text) (Some (a, rest)) → IsOnly (IsStep s place text) (Some (step_of after_assignment (a ∷ []) rest))
-the_set s place text a rest none stands only =
-    (record {
-        token = Set only.0.item;
-        spelled = only.0.spelled;
-        stands = stands;
-        whole = only.0.whole;
-        next_place = refl;
-        assignments = ap (λ (x : Assignment). x ∷ []) only.0.made },
-     λ y h.
-        let found = step_sets s place text none y h in
-        let same = only.1 (found.made, y.rest) found.read in
-        found.step ∙ ap (λ (x : Assignment × List ℕ). step_of after_assignment (x.0 ∷ []) x.1) same)
+the_set s place text a rest none stands only = (
+  record {
+    token = Set only.0.item;
+    spelled = only.0.spelled;
+    stands = stands;
+    whole = only.0.whole;
+    next_place = refl;
+    assignments = ap (λ (x : Assignment). x ∷ []) only.0.made;
+  },
+  λ y h.
+      let found = step_sets s place text none y h in
+      let same = only.1 (found.made, y.rest) found.read in
+      found.step ∙ ap (λ (x : Assignment × List ℕ). step_of after_assignment (x.0 ∷ []) x.1) same,
+)

@@ -24,8 +24,9 @@ unfolding last_value
 empty_points list last no_list no_entries =
     let none = λ (name : List ℕ) (number : ℕ). ap (λ (es : List (Key × ℕ)). lookup (is_key name number) es) no_entries in
     record {
-        within = λ name number i e. absurd (none-some i (sym (none name number) ∙ e));
-        points = λ name number. ap (λ (o : Option ℕ). option_and_then (value_at list) o) (none name number) ∙ ap (λ (l : List code.Assignment). last_value (map view_assignment l) name number) (sym no_list) }
+      within = λ name number i e. absurd (none-some i (sym (none name number) ∙ e));
+      points = λ name number. ap (λ (o : Option ℕ). option_and_then (value_at list) o) (none name number) ∙ ap (λ (l : List code.Assignment). last_value (map view_assignment l) name number) (sym no_list);
+    }
 
 last_value_push : (xs : List Assignment) (x : Assignment) (name : List ℕ) (number : ℕ) → last_value (xs ++ x ∷ []) name number ≡ cond (is_of name number x) (Some x.value) (last_value xs name number)
 unfolding last_value
@@ -52,15 +53,18 @@ pub pushed_points : (list : List code.Assignment) (last new : IndexMap Key ℕ (
     → ((name : List ℕ) (number : ℕ) → place_of new name number ≡ cond (is_of name number (view_assignment a)) (Some (length list)) (place_of last name number))
     → PointsAtLast (list ++ a ∷ []) new
 pushed_points list last new a inv noted = record {
-    within = λ name number i e. elim (chosen (is_of name number (view_assignment a)) (Some (length list)) (place_of last name number) (Some i) (sym (noted name number) ∙ e)) [ inl w ↦
-            let here : length list ≡ i = same_Some (length list) i w.1 in
-            omega (arith, here, length-append list (a ∷ []))
-        | inr w ↦ omega (arith, inv.within name number i w.1, length-append list (a ∷ [])) ];
-    points = λ name number.
-        ap (λ (o : Option ℕ). option_and_then (value_at (list ++ a ∷ [])) o) (noted name number)
-        ∙ by_case name number (is_of name number (view_assignment a))
-        ∙ sym (last_value_push (map view_assignment list) (view_assignment a) name number)
-        ∙ ap (λ (l : List Assignment). last_value l name number) (sym (map-append view_assignment list (a ∷ []))) }
+  within = λ name number i e. elim (chosen (is_of name number (view_assignment a)) (Some (length list)) (place_of last name number) (Some i) (sym (noted name number) ∙ e)) [
+    | inl w ↦
+        let here : length list ≡ i = same_Some (length list) i w.1 in
+        omega (arith, here, length-append list (a ∷ []))
+    | inr w ↦ omega (arith, inv.within name number i w.1, length-append list (a ∷ []))
+  ];
+  points = λ name number.
+      ap (λ (o : Option ℕ). option_and_then (value_at (list ++ a ∷ [])) o) (noted name number)
+      ∙ by_case name number (is_of name number (view_assignment a))
+      ∙ sym (last_value_push (map view_assignment list) (view_assignment a) name number)
+      ∙ ap (λ (l : List Assignment). last_value l name number) (sym (map-append view_assignment list (a ∷ [])));
+}
   where
     by_case : (name : List ℕ) (number : ℕ) (b : Bool) → option_and_then (value_at (list ++ a ∷ [])) (cond b (Some (length list)) (place_of last name number)) ≡ cond b (Some a.value.items) (last_value (map view_assignment list) name number)
     by_case name number true = ap (λ (o : Option code.Assignment). option_map (λ (x : code.Assignment). x.value.items) o) (slice_get_seam list a)

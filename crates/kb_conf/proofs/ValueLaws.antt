@@ -24,12 +24,13 @@ record EndsItem (b : ℕ) : Type 0 where
 
 end_byte : (b : ℕ) → (is_blank b || eqb b SEMICOLON || eqb b LINE_FEED) ≡ true → EndsItem b
 end_byte b h = record {
-    quote = grind (arith, nat_tests);
-    backslash = grind (arith, nat_tests);
-    dollar = grind (arith, nat_tests);
-    backquote = grind (arith, nat_tests);
-    apostrophe = grind (arith, nat_tests);
-    bare = grind (arith, nat_tests) }
+  quote = grind (arith, nat_tests);
+  backslash = grind (arith, nat_tests);
+  dollar = grind (arith, nat_tests);
+  backquote = grind (arith, nat_tests);
+  apostrophe = grind (arith, nat_tests);
+  bare = grind (arith, nat_tests);
+}
 
 no_piece_at_end : (m : Mode) (text : List ℕ) → m.quoted ≡ false → ends_item text ≡ true → piece_at m text ≡ None
 unfolding piece_at
@@ -43,10 +44,11 @@ pub with_piece : (s : Scope) (m : Mode) (text : List ℕ) (p : Piece) (behind va
 with_piece s m text p behind value after e r =
     let here = piece_found m text p behind e in
     record {
-        pieces = p ∷ r.pieces;
-        spelled = here.spelling ∙ ap (λ x. spell p ++ x) r.spelled ∙ sym (append_assoc (spell p) (spell_pieces r.pieces) after);
-        fitting = and_from (fits m p (spell_pieces r.pieces ++ after)) (are_value (mode_after m p) r.pieces after) (ap (fits m p) (sym r.spelled) ∙ here.fitting) r.fitting;
-        given = ap (λ x. gives s m p ++ x) r.given }
+      pieces = p ∷ r.pieces;
+      spelled = here.spelling ∙ ap (λ x. spell p ++ x) r.spelled ∙ sym (append_assoc (spell p) (spell_pieces r.pieces) after);
+      fitting = and_from (fits m p (spell_pieces r.pieces ++ after)) (are_value (mode_after m p) r.pieces after) (ap (fits m p) (sym r.spelled) ∙ here.fitting) r.fitting;
+      given = ap (λ x. gives s m p ++ x) r.given;
+    }
 
 -- what is left of a value behind its first piece
 pub record Left (s : Scope) (m : Mode) (p : Piece) (behind value after : List ℕ) : Type 0 where
@@ -66,9 +68,10 @@ behind_piece s m text p behind value after e r = by_pieces r.pieces r.spelled r.
         let again = piece_again m q (spell_pieces qs ++ after) parts.0 in
         let pair = some_pair_parts q p (spell_pieces qs ++ after) behind (sym again ∙ ap (piece_at m) (sym (append_assoc (spell q) (spell_pieces qs) after) ∙ sym spelled) ∙ e) in
         subst (λ (x : Piece). Left s m x behind value after) pair.0 (record {
-            tail = give_all s (mode_after m q) qs;
-            whole = given;
-            read = record { pieces = qs; spelled = sym pair.1; fitting = parts.1; given = refl } })
+          tail = give_all s (mode_after m q) qs;
+          whole = given;
+          read = record { pieces = qs; spelled = sym pair.1; fitting = parts.1; given = refl };
+        })
 
 -- where no piece begins, only the empty value is read, at an end
 pub record Ended (m : Mode) (text value after : List ℕ) : Type 0 where
@@ -99,11 +102,12 @@ continues_start s m text = record { forth = λ tail after r. r; back = λ whole 
 
 pub continues_step : (s : Scope) (start : Mode) (text value : List ℕ) (m : Mode) (rest : List ℕ) (p : Piece) (behind : List ℕ) → Continues s start text value m rest → piece_at m rest ≡ Some (p, behind) → Continues s start text (value ++ gives s m p) (mode_after m p) behind
 continues_step s start text value m rest p behind inv e = record {
-    forth = λ tail after r. subst (λ (x : List ℕ). ReadsValue s start text x after) (sym (append_assoc value (gives s m p) tail)) (inv.forth (gives s m p ++ tail) after (with_piece s m rest p behind tail after e r));
-    back = λ whole after r.
-        let so_far = inv.back whole after r in
-        let left = behind_piece s m rest p behind so_far.0 after e so_far.2 in
-        (left.tail, so_far.1 ∙ ap (λ x. value ++ x) left.whole ∙ sym (append_assoc value (gives s m p) left.tail), left.read) }
+  forth = λ tail after r. subst (λ (x : List ℕ). ReadsValue s start text x after) (sym (append_assoc value (gives s m p) tail)) (inv.forth (gives s m p ++ tail) after (with_piece s m rest p behind tail after e r));
+  back = λ whole after r.
+      let so_far = inv.back whole after r in
+      let left = behind_piece s m rest p behind so_far.0 after e so_far.2 in
+      (left.tail, so_far.1 ∙ ap (λ x. value ++ x) left.whole ∙ sym (append_assoc value (gives s m p) left.tail), left.read);
+}
 
 -- a front that is too long is that of no short value
 pub too_long : (s : Scope) (start : Mode) (text value : List ℕ) (m : Mode) (rest : List ℕ) → Continues s start text value m rest → LONGEST_VALUE < length value → (v : List ℕ × List ℕ) → IsShortValue s start text v → ⊥
@@ -114,13 +118,14 @@ too_long s start text value m rest inv long v h =
     omega arith
 
 pub value_done : (s : Scope) (start : Mode) (text value : List ℕ) (m : Mode) (rest : List ℕ) → Continues s start text value m rest → length value ≤ LONGEST_VALUE → piece_at m rest ≡ None → (not m.quoted && ends_item rest) ≡ true → IsOnly (IsShortValue s start text) (Some (value, rest))
-value_done s start text value m rest inv short none ends =
-    ((subst (λ (x : List ℕ). ReadsValue s start text x rest) (append-nil value) (inv.forth [] rest (record { pieces = []; spelled = refl; fitting = ends; given = refl })), le-leb (length value) LONGEST_VALUE short),
-     λ y h.
-        let so_far = inv.back y.0 y.1 h.0 in
-        let ended = at_end s m rest so_far.0 y.1 none so_far.2 in
-        let same_value : y.0 ≡ value = so_far.1 ∙ ap (λ x. value ++ x) ended.empty ∙ append-nil value in
-        same_pair y.0 value y.1 rest same_value ended.here)
+value_done s start text value m rest inv short none ends = (
+  (subst (λ (x : List ℕ). ReadsValue s start text x rest) (append-nil value) (inv.forth [] rest (record { pieces = []; spelled = refl; fitting = ends; given = refl })), le-leb (length value) LONGEST_VALUE short),
+  λ y h.
+      let so_far = inv.back y.0 y.1 h.0 in
+      let ended = at_end s m rest so_far.0 y.1 none so_far.2 in
+      let same_value : y.0 ≡ value = so_far.1 ∙ ap (λ x. value ++ x) ended.empty ∙ append-nil value in
+      same_pair y.0 value y.1 rest same_value ended.here,
+)
   where
     same_pair : (a b x y : List ℕ) → a ≡ b → x ≡ y → ◌≡◌ {A = List ℕ × List ℕ} (a, x) (b, y)
     same_pair a b x y e h = rw (e, h) refl

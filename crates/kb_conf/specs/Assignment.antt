@@ -28,10 +28,10 @@ pub record Given : Type 0 where
 unfoldable pub given_value : Given → List ℕ → ℕ → Option (List ℕ)
 given_value g name number =
     if number == 0 then (
-      if bytes_eq name (codes "kernelver") then Some g.kernel
-      else if bytes_eq name (codes "kernel_source_dir") then Some g.kernel_source_dir
-      else if bytes_eq name (codes "dkms_tree") then Some g.dkms_tree
-      else if bytes_eq name (codes "source_tree") then Some g.source_tree
-      else if bytes_eq name (codes "arch") then Some g.arch
-      else None)
+    if bytes_eq name (codes "kernelver") then Some g.kernel
+    else if bytes_eq name (codes "kernel_source_dir") then Some g.kernel_source_dir
+    else if bytes_eq name (codes "dkms_tree") then Some g.dkms_tree
+    else if bytes_eq name (codes "source_tree") then Some g.source_tree
+    else if bytes_eq name (codes "arch") then Some g.arch
+    else None)
     else None

@@ -2,34 +2,63 @@ ghost use Rattle.std.specs.Prelude.{◌≡◌};
 ghost use Rattle.kb_conf.specs.Bytes.{is_blank, is_operator, is_active, starts_name, continues_name, stands_for_itself, begins_expansion};
 
 pub const NUL: u8 = 0;
+
 pub const TAB: u8 = b'\t';
+
 pub const LINE_FEED: u8 = b'\n';
+
 pub const CARRIAGE_RETURN: u8 = b'\r';
+
 pub const SPACE: u8 = b' ';
+
 pub const EXCLAMATION: u8 = b'!';
+
 pub const QUOTE: u8 = b'"';
+
 pub const HASH: u8 = b'#';
+
 pub const DOLLAR: u8 = b'$';
+
 pub const AMPERSAND: u8 = b'&';
+
 pub const APOSTROPHE: u8 = b'\'';
+
 pub const OPEN_PARENTHESIS: u8 = b'(';
+
 pub const CLOSE_PARENTHESIS: u8 = b')';
+
 pub const ASTERISK: u8 = b'*';
+
 pub const MINUS: u8 = b'-';
+
 pub const ZERO: u8 = b'0';
+
 pub const SEMICOLON: u8 = b';';
+
 pub const LESS: u8 = b'<';
+
 pub const EQUALS: u8 = b'=';
+
 pub const GREATER: u8 = b'>';
+
 pub const QUESTION: u8 = b'?';
+
 pub const AT: u8 = b'@';
+
 pub const OPEN_BRACKET: u8 = b'[';
+
 pub const BACKSLASH: u8 = b'\\';
+
 pub const CLOSE_BRACKET: u8 = b']';
+
 pub const UNDERSCORE: u8 = b'_';
+
 pub const BACKQUOTE: u8 = b'`';
+
 pub const OPEN_BRACE: u8 = b'{';
+
 pub const BAR: u8 = b'|';
+
 pub const CLOSE_BRACE: u8 = b'}';
 
 /// A space or a tab.

@@ -10,4 +10,6 @@ mod place;
 mod reading;
 mod spans;
 mod table;
+#[cfg(test)]
+mod tests;
 mod value;

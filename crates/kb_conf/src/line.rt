@@ -6,8 +6,6 @@ ghost use Rattle.kb_conf.specs.Line.{is_command, scope, AssignmentAt, IsStep};
 ghost use Rattle.kb_conf.specs.Only.{IsOnly};
 ghost use Rattle.kb_conf.specs.LineViews.{assignment_view, step_view, plain_view};
 
-use std::alloc::{AllocError, Global};
-
 use super::bytes::{EQUALS, HASH, LINE_FEED, SEMICOLON, is_blank};
 use super::given::Given;
 use super::name::split_reference;
@@ -15,6 +13,7 @@ use super::place::{LINE_START, Last, Place};
 use super::spans::{after_byte, len_before};
 use super::table::{Assignment, Table};
 use super::value::read_value;
+use std::alloc::{AllocError, Global};
 
 /// Whether the value of this name is a command, where `$(..)` and backquotes may stand.
 fn is_command(name: &[u8]) -> bool

@@ -6,15 +6,14 @@ ghost use Rattle.kb_conf.specs.Refusal.{AtBadLine};
 ghost use Rattle.kb_conf.specs.Reading.{drop_returns, starts_line_end, sound_len, line_of, IsGood, IsBadLine};
 ghost use Rattle.kb_conf.specs.declared.bytes.TheConstants.{LINE_FEED};
 
-use std::alloc::{AllocError, Global};
-use std::str;
-
 use super::bytes::{CARRIAGE_RETURN, LINE_FEED, NUL};
 use super::given::Given;
 use super::line::{Step, read_step};
 use super::place::LINE_START;
 use super::spans::len_before;
 use super::table::Table;
+use std::alloc::{AllocError, Global};
+use std::str;
 
 /// Why a text isn't read.
 #[derive(Clone, Copy, Debug, PartialEq, Eq)]

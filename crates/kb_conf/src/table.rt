@@ -1,5 +1,5 @@
 //! The assignments of a text, in order, and the last one of each name and number.
-ghost use Rattle.std.specs.Prelude.{◌≡◌, IfOk, ◌++◌, ◌∷◌, [], option_map};
+ghost use Rattle.std.specs.Prelude.{◌≡◌, IfOk, ◌++◌, ◌∷◌, [], map, option_map};
 ghost use Rattle.std.specs.Option.{option_to_list};
 ghost use Rattle.kb_conf.specs.Assignment.{last_value};
 ghost use Rattle.kb_conf.specs.Table.{view_assignment};
@@ -45,6 +45,13 @@ impl<'a> Table<'a> {
             list: Vec::new(alloc),
             last: IndexMap::new(alloc),
         }
+    }
+
+    /// The assignments, in order.
+    pub fn assignments(&self) -> &[Assignment<'a>]
+        ensures { map view_assignment result.now ≡ self.now }
+    {
+        self.list.as_slice()
     }
 
     /// The value of the last assignment of this name and number.

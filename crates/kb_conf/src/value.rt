@@ -6,13 +6,12 @@ ghost use Rattle.kb_conf.specs.Piece.{spell};
 ghost use Rattle.kb_conf.specs.Value.{look_up, expand, gives, ends_item, IsShortValue};
 ghost use Rattle.kb_conf.specs.Views.{rest_view, view_reference, view_piece, mode_view, value_view};
 
-use std::alloc::{AllocError, Global};
-
 use super::bytes::{BACKSLASH, LINE_FEED, SEMICOLON, is_active, is_blank};
 use super::given::Given;
 use super::name::Reference;
 use super::piece::{Mode, Piece, next_piece};
 use super::table::Table;
+use std::alloc::{AllocError, Global};
 
 /// The most bytes that a value may have.
 pub const LONGEST_VALUE: usize = 65_536;
@@ -66,7 +65,13 @@ fn given_by<'x>(
         Piece::Escaped(byte) if mode.quoted && !is_active(byte) => written,
         Piece::Escaped(_) => &written[1..],
         Piece::Single(inside) => inside,
-        Piece::Plain(name) => expand(given, earlier, mode, Reference { name, number: None }, written),
+        Piece::Plain(name) => expand(
+            given,
+            earlier,
+            mode,
+            Reference { name, number: None },
+            written,
+        ),
         Piece::Braced(reference) => expand(given, earlier, mode, reference, written),
     }
 }

@@ -36,4 +36,4 @@ returns c =
     let made : Assignment = record { name = r.name; number = c.unwrap_or.result; value = value } in
     let same : made_of r value ≡ made = ap (λ (n : ℕ). let a : Assignment = record { name = r.name; number = n; value = value } in a) (sym c.unwrap_or.ensures) in
     subst (λ (a : Assignment). IsOnly (AssignmentAt s c.args.text.now) (Some (a, after))) same
-        (the_assignment s c.args.text.now r c.in-Some.rest.now behind value after (sym c.in-Some.ensures) (sym c.in-Some-after_byte.ensures) here)
+    (the_assignment s c.args.text.now r c.in-Some.rest.now behind value after (sym c.in-Some.ensures) (sym c.in-Some-after_byte.ensures) here)

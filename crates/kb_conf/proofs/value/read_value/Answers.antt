@@ -31,9 +31,10 @@ pieces-preserved c =
     let all : length c.extend_from_slice.new.self.items ≡ length c.pieces.value.items + length (gives s m p) = ap length items ∙ length-append c.pieces.value.items (gives s m p) in
     let more : length c.given_by-bytes.result.now ≡ length (gives s m p) = ap length c.given_by-bytes.ensures in
     record {
-        continues = subst (λ (x : List ℕ). Continues s start c.args.text.now x (mode_view c.after-mode.result) c.in-Some.behind.now) (sym items)
-            (subst (λ (x : Mode). Continues s start c.args.text.now (c.pieces.value.items ++ gives s m p) x c.in-Some.behind.now) (sym c.after-mode.ensures) step);
-        short = omega (arith, c.if-bytes-len.false, c.len.ensures, c.pieces.value.ok.0, c.pieces.invariant.short) }
+      continues = subst (λ (x : List ℕ). Continues s start c.args.text.now x (mode_view c.after-mode.result) c.in-Some.behind.now) (sym items)
+          (subst (λ (x : Mode). Continues s start c.args.text.now (c.pieces.value.items ++ gives s m p) x c.in-Some.behind.now) (sym c.after-mode.ensures) step);
+      short = omega (arith, c.if-bytes-len.false, c.len.ensures, c.pieces.value.ok.0, c.pieces.invariant.short);
+    }
 
 pub returns-then-ends_item : goal.returns-then-ends_item
 returns-then-ends_item c =
@@ -42,5 +43,6 @@ returns-then-ends_item c =
 pub returns : goal.returns
 returns c = λ x h.
     elim c.else-not-mode.branch [
-        else-not-mode-via-then-not-mode+else-ends_item w ↦ value_broken _ _ c.args.text.now c.pieces.value.items (mode_view c.pieces.mode) c.pieces.rest.now c.pieces.invariant.continues c.in_default.ensures (and_right (not c.pieces.mode.quoted) (ends_item c.pieces.rest.now) (sym w.if-ends_item.ensures)) x h
-      | else-not-mode-via-else-not-mode w ↦ value_broken _ _ c.args.text.now c.pieces.value.items (mode_view c.pieces.mode) c.pieces.rest.now c.pieces.invariant.continues c.in_default.ensures (and_left (not c.pieces.mode.quoted) (ends_item c.pieces.rest.now) w.if-not-mode.false) x h ]
+      | else-not-mode-via-then-not-mode+else-ends_item w ↦ value_broken _ _ c.args.text.now c.pieces.value.items (mode_view c.pieces.mode) c.pieces.rest.now c.pieces.invariant.continues c.in_default.ensures (and_right (not c.pieces.mode.quoted) (ends_item c.pieces.rest.now) (sym w.if-ends_item.ensures)) x h
+      | else-not-mode-via-else-not-mode w ↦ value_broken _ _ c.args.text.now c.pieces.value.items (mode_view c.pieces.mode) c.pieces.rest.now c.pieces.invariant.continues c.in_default.ensures (and_left (not c.pieces.mode.quoted) (ends_item c.pieces.rest.now) w.if-not-mode.false) x h
+    ]
