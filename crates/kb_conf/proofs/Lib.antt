@@ -8,3 +8,4 @@ pub mod ValueLaws
 pub mod AssignmentLaws
 pub mod StepLaws
 pub mod ReadingLaws
+pub mod OneMeaning

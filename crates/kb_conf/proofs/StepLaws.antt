@@ -101,7 +101,7 @@ plain_found s place (b ∷ bs) next rest e =
       ]
     ]
 
-abbrev step_of : Place → List Assignment → List ℕ → Step
+abbrev pub step_of : Place → List Assignment → List ℕ → Step
 step_of place assigned rest = record { place = place; assigned = assigned; rest = rest }
 
 same_step : (a : Step) (place : Place) (assigned : List Assignment) (rest : List ℕ) → a.place ≡ place → a.assigned ≡ assigned → a.rest ≡ rest → a ≡ record { place = place; assigned = assigned; rest = rest }

@@ -32,7 +32,7 @@ end_byte b h = record {
   bare = grind (arith, nat_tests);
 }
 
-no_piece_at_end : (m : Mode) (text : List ℕ) → m.quoted ≡ false → ends_item text ≡ true → piece_at m text ≡ None
+pub no_piece_at_end : (m : Mode) (text : List ℕ) → m.quoted ≡ false → ends_item text ≡ true → piece_at m text ≡ None
 unfolding piece_at
 no_piece_at_end m [] outside ends = refl
 no_piece_at_end m (b ∷ bs) outside ends =

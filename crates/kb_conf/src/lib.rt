@@ -3,6 +3,7 @@
 
 mod bytes;
 mod given;
+mod laws;
 mod line;
 mod name;
 mod piece;

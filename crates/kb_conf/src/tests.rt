@@ -12,24 +12,24 @@ const GIVEN: Given<'static> = Given {
     source_tree: "/usr/src",
 };
 
-/// An assignment as it is expected: name, number, value.
-type Expected<'a> = (&'a [u8], u8, &'a [u8]);
-
+/// Reads a good text. What is expected is each assignment as `NAME[N]=VALUE|`.
 fn expect_good(
     rt: &impl Abort,
     alloc: Global,
     text: &[u8],
-    expected: &[Expected<'_>],
+    expected: &[u8],
 ) -> Result<(), ReadError> {
     let text = without_returns(alloc, text)?;
     let table = read_text(alloc, text.as_slice(), &GIVEN)?;
-    let assignments = table.assignments();
-    assert_eq!(rt; assignments.len(), expected.len());
-    for (assignment, (name, number, value)) in assignments.iter().zip(expected) {
-        assert_eq!(rt; assignment.name, *name);
-        assert_eq!(rt; assignment.number, *number);
-        assert_eq!(rt; assignment.value.as_slice(), *value);
+    let mut found = Vec::new(alloc);
+    for assignment in table.assignments() {
+        found.extend_from_slice(assignment.name)?;
+        let number = format!(in alloc; "[{}]=", assignment.number)?;
+        found.extend_from_slice(number.as_bytes())?;
+        found.extend_from_slice(assignment.value.as_slice())?;
+        found.push(b'|')?;
     }
+    assert_eq!(rt; found.as_slice(), expected);
     Ok(())
 }
 
@@ -189,170 +189,72 @@ fn refuses_what_is_not_text(rt: HostRuntime) -> Result<(), Fail> {
 
 #[test]
 fn reads_lines(rt: HostRuntime) -> Result<(), Fail> {
-    let alloc = rt.alloc();
-    for text in [
-        b"".as_slice(),
-        b"\n\n",
-        b" \t\n",
-        b"# c\n",
-        b"  # c",
-        b";",
-        b" ; # c\n",
-        b";\n;\n",
-    ] {
-        expect_good(&rt, alloc, text, &[])?;
+    let table: [(&[u8], &[u8]); 14] = [
+        (b"", b""),
+        (b"\n\n", b""),
+        (b" \t\n", b""),
+        (b"# c\n", b""),
+        (b"  # c", b""),
+        (b";", b""),
+        (b" ; # c\n", b""),
+        (b";\n;\n", b""),
+        (b"X= Y=2", b"X[0]=|Y[0]=2|"),
+        (b" A=1;B=2 ; C=3 ;\n\tD=4 ; # d", b"A[0]=1|B[0]=2|C[0]=3|D[0]=4|"),
+        (b"A=a#b #c", b"A[0]=a#b|"),
+        (b"A[255]=x\nA[0]=y\n_a9[10]=z", b"A[255]=x|A[0]=y|_a9[10]=z|"),
+        (b"A=1\r\nB='2\r\n'\r\n", b"A[0]=1|B[0]=2\n|"),
+        (b"A=1\r\r\nB=2\r", b"A[0]=1\r|B[0]=2\r|"),
+    ];
+    for (text, expected) in table {
+        expect_good(&rt, rt.alloc(), text, expected)?;
     }
-    expect_good(&rt, alloc, b"X= Y=2", &[(b"X", 0, b""), (b"Y", 0, b"2")])?;
-    expect_good(
-        &rt,
-        alloc,
-        b" A=1;B=2 ; C=3 ;\n\tD=4 ; # d",
-        &[
-            (b"A", 0, b"1"),
-            (b"B", 0, b"2"),
-            (b"C", 0, b"3"),
-            (b"D", 0, b"4"),
-        ],
-    )?;
-    expect_good(&rt, alloc, b"A=a#b #c", &[(b"A", 0, b"a#b")])?;
-    expect_good(
-        &rt,
-        alloc,
-        b"A[255]=x\nA[0]=y\n_a9[10]=z",
-        &[(b"A", 255, b"x"), (b"A", 0, b"y"), (b"_a9", 10, b"z")],
-    )?;
-    expect_good(
-        &rt,
-        alloc,
-        b"A=1\r\nB='2\r\n'\r\n",
-        &[(b"A", 0, b"1"), (b"B", 0, b"2\n")],
-    )?;
-    expect_good(
-        &rt,
-        alloc,
-        b"A=1\r\r\nB=2\r",
-        &[(b"A", 0, b"1\r"), (b"B", 0, b"2\r")],
-    )?;
     Ok(())
 }
 
 #[test]
 fn reads_quotes(rt: HostRuntime) -> Result<(), Fail> {
-    let alloc = rt.alloc();
-    expect_good(
-        &rt,
-        alloc,
-        b"A='a b\nc\\d\"$x'",
-        &[(b"A", 0, b"a b\nc\\d\"$x")],
-    )?;
-    expect_good(
-        &rt,
-        alloc,
-        b"A=\"a\\qb\\\"c\\$d\\\\e\\`f\"",
-        &[(b"A", 0, b"a\\qb\"c$d\\e`f")],
-    )?;
-    expect_good(
-        &rt,
-        alloc,
-        b"A=a\\\nb B=\"a\\\nb\"",
-        &[(b"A", 0, b"ab"), (b"B", 0, b"ab")],
-    )?;
-    expect_good(&rt, alloc, b"A=\\a\\ \\;\\\"", &[(b"A", 0, b"a ;\"")])?;
-    expect_good(&rt, alloc, b"A=\"'x'\"'\"'b", &[(b"A", 0, b"'x'\"b")])?;
-    expect_good(
-        &rt,
-        alloc,
-        b"A=\xc3\xa9\\\xc3\xa9",
-        &[(b"A", 0, b"\xc3\xa9\xc3\xa9")],
-    )?;
-    expect_good(
-        &rt,
-        alloc,
-        b"A=$ B=\"a$\" C=$\xc3\xa9 D=$'x' E=$[1] F=~ G=$",
-        &[
-            (b"A", 0, b"$"),
-            (b"B", 0, b"a$"),
-            (b"C", 0, b"$\xc3\xa9"),
-            (b"D", 0, b"$x"),
-            (b"E", 0, b"$[1]"),
-            (b"F", 0, b"~"),
-            (b"G", 0, b"$"),
-        ],
-    )?;
+    let table: [(&[u8], &[u8]); 7] = [
+        (b"A='a b\nc\\d\"$x'", b"A[0]=a b\nc\\d\"$x|"),
+        (b"A=\"a\\qb\\\"c\\$d\\\\e\\`f\"", b"A[0]=a\\qb\"c$d\\e`f|"),
+        (b"A=a\\\nb B=\"a\\\nb\"", b"A[0]=ab|B[0]=ab|"),
+        (b"A=\\a\\ \\;\\\"", b"A[0]=a ;\"|"),
+        (b"A=\"'x'\"'\"'b", b"A[0]='x'\"b|"),
+        (b"A=\xc3\xa9\\\xc3\xa9", b"A[0]=\xc3\xa9\xc3\xa9|"),
+        (b"A=$ B=\"a$\" C=$\xc3\xa9 D=$'x' E=$[1] F=~ G=$", b"A[0]=$|B[0]=a$|C[0]=$\xc3\xa9|D[0]=$x|E[0]=$[1]|F[0]=~|G[0]=$|"),
+    ];
+    for (text, expected) in table {
+        expect_good(&rt, rt.alloc(), text, expected)?;
+    }
     Ok(())
 }
 
 #[test]
 fn reads_variables(rt: HostRuntime) -> Result<(), Fail> {
-    let alloc = rt.alloc();
-    expect_good(
-        &rt,
-        alloc,
-        b"A=1 B=$A${A}x",
-        &[(b"A", 0, b"1"), (b"B", 0, b"11x")],
-    )?;
-    expect_good(
-        &rt,
-        alloc,
-        b"A[3]=q B=${A[3]}-$A",
-        &[(b"A", 3, b"q"), (b"B", 0, b"q-")],
-    )?;
-    expect_good(
-        &rt,
-        alloc,
-        b"A=1\nA=x$A\nB=$A",
-        &[(b"A", 0, b"1"), (b"A", 0, b"x1"), (b"B", 0, b"x1")],
-    )?;
-    expect_good(
-        &rt,
-        alloc,
-        b"kernelver=9 A=$kernelver",
-        &[(b"kernelver", 0, b"9"), (b"A", 0, b"6.1.0")],
-    )?;
-    expect_good(
-        &rt,
-        alloc,
-        b"arch[1]=9 A=${arch[1]}$arch",
-        &[(b"arch", 1, b"9"), (b"A", 0, b"9x86_64")],
-    )?;
-    expect_good(
-        &rt,
-        alloc,
-        b"A=$dkms_tree:$source_tree",
-        &[(b"A", 0, b"/var/lib/dkms:/usr/src")],
-    )?;
+    let table: [(&[u8], &[u8]); 7] = [
+        (b"A=1 B=$A${A}x", b"A[0]=1|B[0]=11x|"),
+        (b"A[3]=q B=${A[3]}-$A", b"A[3]=q|B[0]=q-|"),
+        (b"A=1\nA=x$A\nB=$A", b"A[0]=1|A[0]=x1|B[0]=x1|"),
+        (b"kernelver=9 A=$kernelver", b"kernelver[0]=9|A[0]=6.1.0|"),
+        (b"arch[1]=9 A=${arch[1]}$arch", b"arch[1]=9|A[0]=9x86_64|"),
+        (b"A=$dkms_tree:$source_tree", b"A[0]=/var/lib/dkms:/usr/src|"),
+        (b"A=$kernel_source_dir", b"A[0]=/lib/modules/6.1.0/build|"),
+    ];
+    for (text, expected) in table {
+        expect_good(&rt, rt.alloc(), text, expected)?;
+    }
     Ok(())
 }
 
 #[test]
 fn reads_commands(rt: HostRuntime) -> Result<(), Fail> {
-    let alloc = rt.alloc();
-    expect_good(
-        &rt,
-        alloc,
-        b"MAKE=\"make -j$(nproc) KVER=${kernelver}\"",
-        &[(b"MAKE", 0, b"make -j$(nproc) KVER=6.1.0")],
-    )?;
-    expect_good(
-        &rt,
-        alloc,
-        b"MAKE=\"'make' -C src KVER=${kernelver} \\\n  KSRC=$kernel_source_dir\"",
-        &[(
-            b"MAKE",
-            0,
-            b"'make' -C src KVER=6.1.0   KSRC=/lib/modules/6.1.0/build",
-        )],
-    )?;
-    expect_good(
-        &rt,
-        alloc,
-        b"CLEAN[2]=$(a (b) ') MAKE=`a b`$x${y[2]} A=\"$x\"",
-        &[
-            (b"CLEAN", 2, b"$(a (b) ')"),
-            (b"MAKE", 0, b"`a b`$x${y[2]}"),
-            (b"A", 0, b""),
-        ],
-    )?;
+    let table: [(&[u8], &[u8]); 3] = [
+        (b"MAKE=\"make -j$(nproc) KVER=${kernelver}\"", b"MAKE[0]=make -j$(nproc) KVER=6.1.0|"),
+        (b"MAKE=\"'make' -C src KVER=${kernelver} \\\n  KSRC=$kernel_source_dir\"", b"MAKE[0]='make' -C src KVER=6.1.0   KSRC=/lib/modules/6.1.0/build|"),
+        (b"CLEAN[2]=$(a (b) ') MAKE=`a b`$x${y[2]} A=\"$x\"", b"CLEAN[2]=$(a (b) ')|MAKE[0]=`a b`$x${y[2]}|A[0]=|"),
+    ];
+    for (text, expected) in table {
+        expect_good(&rt, rt.alloc(), text, expected)?;
+    }
     Ok(())
 }
 
