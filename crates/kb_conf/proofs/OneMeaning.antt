@@ -97,7 +97,7 @@ same_list g (t ∷ ts) (u ∷ us) earlier place same a b =
     let made : assigns s u ≡ assigns s t = sym (ap (λ (x : Step). x.assigned) one) in
     let there : place_after place u ≡ place_after place t = sym (ap (λ (x : Step). x.place) one) in
     let lines : are_lines g (earlier ++ assigns s t) (place_after place t) us [] ≡ true =
-        ap (λ (x : List Assignment). are_lines g (earlier ++ x) (place_after place t) us []) (sym made) ∙ ap (λ (x : Place). are_lines g (earlier ++ assigns s u) x us []) (sym there) ∙ right.1 in
+    ap (λ (x : List Assignment). are_lines g (earlier ++ x) (place_after place t) us []) (sym made) ∙ ap (λ (x : Place). are_lines g (earlier ++ assigns s u) x us []) (sym there) ∙ right.1 in
     same_list g ts us (earlier ++ assigns s t) (place_after place t) rest left.1 lines ∙ ap (λ (x : List Assignment). assign_all g (earlier ++ x) us) (sym made)
 
 pub one_list : (g : Given) (text : List ℕ) (first second : List Assignment) → IsGood g text first → IsGood g text second → first ≡ second

@@ -11,6 +11,12 @@ mod place;
 mod reading;
 mod spans;
 mod table;
+mod value;
+
+pub use given::Given;
+pub use laws::one_meaning;
+pub use reading::{ReadError, read_text, without_returns};
+pub use table::{Assignment, Table};
+
 #[cfg(test)]
 mod tests;
-mod value;

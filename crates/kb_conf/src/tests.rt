@@ -199,9 +199,15 @@ fn reads_lines(rt: HostRuntime) -> Result<(), Fail> {
         (b" ; # c\n", b""),
         (b";\n;\n", b""),
         (b"X= Y=2", b"X[0]=|Y[0]=2|"),
-        (b" A=1;B=2 ; C=3 ;\n\tD=4 ; # d", b"A[0]=1|B[0]=2|C[0]=3|D[0]=4|"),
+        (
+            b" A=1;B=2 ; C=3 ;\n\tD=4 ; # d",
+            b"A[0]=1|B[0]=2|C[0]=3|D[0]=4|",
+        ),
         (b"A=a#b #c", b"A[0]=a#b|"),
-        (b"A[255]=x\nA[0]=y\n_a9[10]=z", b"A[255]=x|A[0]=y|_a9[10]=z|"),
+        (
+            b"A[255]=x\nA[0]=y\n_a9[10]=z",
+            b"A[255]=x|A[0]=y|_a9[10]=z|",
+        ),
         (b"A=1\r\nB='2\r\n'\r\n", b"A[0]=1|B[0]=2\n|"),
         (b"A=1\r\r\nB=2\r", b"A[0]=1\r|B[0]=2\r|"),
     ];
@@ -220,7 +226,10 @@ fn reads_quotes(rt: HostRuntime) -> Result<(), Fail> {
         (b"A=\\a\\ \\;\\\"", b"A[0]=a ;\"|"),
         (b"A=\"'x'\"'\"'b", b"A[0]='x'\"b|"),
         (b"A=\xc3\xa9\\\xc3\xa9", b"A[0]=\xc3\xa9\xc3\xa9|"),
-        (b"A=$ B=\"a$\" C=$\xc3\xa9 D=$'x' E=$[1] F=~ G=$", b"A[0]=$|B[0]=a$|C[0]=$\xc3\xa9|D[0]=$x|E[0]=$[1]|F[0]=~|G[0]=$|"),
+        (
+            b"A=$ B=\"a$\" C=$\xc3\xa9 D=$'x' E=$[1] F=~ G=$",
+            b"A[0]=$|B[0]=a$|C[0]=$\xc3\xa9|D[0]=$x|E[0]=$[1]|F[0]=~|G[0]=$|",
+        ),
     ];
     for (text, expected) in table {
         expect_good(&rt, rt.alloc(), text, expected)?;
@@ -236,7 +245,10 @@ fn reads_variables(rt: HostRuntime) -> Result<(), Fail> {
         (b"A=1\nA=x$A\nB=$A", b"A[0]=1|A[0]=x1|B[0]=x1|"),
         (b"kernelver=9 A=$kernelver", b"kernelver[0]=9|A[0]=6.1.0|"),
         (b"arch[1]=9 A=${arch[1]}$arch", b"arch[1]=9|A[0]=9x86_64|"),
-        (b"A=$dkms_tree:$source_tree", b"A[0]=/var/lib/dkms:/usr/src|"),
+        (
+            b"A=$dkms_tree:$source_tree",
+            b"A[0]=/var/lib/dkms:/usr/src|",
+        ),
         (b"A=$kernel_source_dir", b"A[0]=/lib/modules/6.1.0/build|"),
     ];
     for (text, expected) in table {
@@ -248,9 +260,18 @@ fn reads_variables(rt: HostRuntime) -> Result<(), Fail> {
 #[test]
 fn reads_commands(rt: HostRuntime) -> Result<(), Fail> {
     let table: [(&[u8], &[u8]); 3] = [
-        (b"MAKE=\"make -j$(nproc) KVER=${kernelver}\"", b"MAKE[0]=make -j$(nproc) KVER=6.1.0|"),
-        (b"MAKE=\"'make' -C src KVER=${kernelver} \\\n  KSRC=$kernel_source_dir\"", b"MAKE[0]='make' -C src KVER=6.1.0   KSRC=/lib/modules/6.1.0/build|"),
-        (b"CLEAN[2]=$(a (b) ') MAKE=`a b`$x${y[2]} A=\"$x\"", b"CLEAN[2]=$(a (b) ')|MAKE[0]=`a b`$x${y[2]}|A[0]=|"),
+        (
+            b"MAKE=\"make -j$(nproc) KVER=${kernelver}\"",
+            b"MAKE[0]=make -j$(nproc) KVER=6.1.0|",
+        ),
+        (
+            b"MAKE=\"'make' -C src KVER=${kernelver} \\\n  KSRC=$kernel_source_dir\"",
+            b"MAKE[0]='make' -C src KVER=6.1.0   KSRC=/lib/modules/6.1.0/build|",
+        ),
+        (
+            b"CLEAN[2]=$(a (b) ') MAKE=`a b`$x${y[2]} A=\"$x\"",
+            b"CLEAN[2]=$(a (b) ')|MAKE[0]=`a b`$x${y[2]}|A[0]=|",
+        ),
     ];
     for (text, expected) in table {
         expect_good(&rt, rt.alloc(), text, expected)?;
