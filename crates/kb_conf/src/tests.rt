@@ -27,7 +27,7 @@ fn expect_good(
         let number = format!(in alloc; "[{}]=", assignment.number)?;
         found.extend_from_slice(number.as_bytes())?;
         found.extend_from_slice(assignment.value.as_slice())?;
-        found.push(b'|')?;
+        found.extend_from_slice(b"|")?;
     }
     assert_eq!(rt; found.as_slice(), expected);
     Ok(())
