@@ -6,7 +6,7 @@ ghost use Rattle.kb_conf.specs.Piece.{spell};
 ghost use Rattle.kb_conf.specs.Value.{look_up, expand, gives, ends_item, IsShortValue};
 ghost use Rattle.kb_conf.specs.Views.{rest_view, view_reference, view_piece, mode_view, value_view};
 
-use super::bytes::{BACKSLASH, LINE_FEED, SEMICOLON, is_active, is_blank};
+use super::bytes::{LINE_FEED, SEMICOLON, is_active, is_blank};
 use super::given::Given;
 use super::name::Reference;
 use super::piece::{Mode, Piece, next_piece};
