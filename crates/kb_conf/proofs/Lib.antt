@@ -1,0 +1,11 @@
+pub mod Tools
+pub mod SpanLaws
+pub mod NumberLaws
+pub mod ReferenceLaws
+pub mod PieceLaws
+pub mod TableLaws
+pub mod ValueLaws
+pub mod AssignmentLaws
+pub mod StepLaws
+pub mod ReadingLaws
+pub mod OneMeaning

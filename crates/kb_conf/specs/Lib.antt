@@ -1,0 +1,15 @@
+pub mod Bytes
+pub mod Name
+pub mod Piece
+pub mod Front
+pub mod Views
+pub mod Assignment
+pub mod Table
+pub mod Value
+pub mod Only
+pub mod GivenView
+pub mod Place
+pub mod Line
+pub mod LineViews
+pub mod Reading
+pub mod Refusal

@@ -1,0 +1,120 @@
+-- The lines of a dkms.conf, after dkms(8), and the assignments that they make.
+use Rattle.std.specs.Prelude.{◌≡◌, ℕ, Bool, true, false, ◌&&◌, ◌||◌, List, [], ◌∷◌, ◌++◌, unwrap_or, ◌==◌, IsTrue, codes}
+use Rattle.std.specs.Str.{bytes_eq}
+use Rattle.kb_conf.specs.declared.bytes.TheConstants.{LINE_FEED, HASH, SEMICOLON, EQUALS}
+use Rattle.kb_conf.specs.declared.place.Place.{Place}
+use Rattle.kb_conf.specs.Bytes.{is_blank}
+use Rattle.kb_conf.specs.Name.{Reference, is_reference, spell_reference}
+use Rattle.kb_conf.specs.Piece.{Piece, Mode, lacks}
+use Rattle.kb_conf.specs.Assignment.{Assignment, Given}
+use Rattle.kb_conf.specs.Value.{Scope, spell_pieces, give_all, are_value, is_short}
+use Rattle.kb_conf.specs.Place.{may_set, may_part, after_blank, after_semicolon, after_assignment, line_start}
+
+-- NAME=VALUE or NAME[N]=VALUE
+pub record Item : Type 0 where
+  pub target : Reference
+  pub pieces : List Piece
+
+abbrev pub spell_item : Item → List ℕ
+spell_item i = spell_reference i.target ++ (EQUALS ∷ spell_pieces i.pieces)
+
+-- the names whose values are commands
+abbrev pub is_command : List ℕ → Bool
+is_command name = bytes_eq name (codes "MAKE") || bytes_eq name (codes "CLEAN")
+
+abbrev pub item_mode : Item → Mode
+item_mode i = record { quoted = false; command = is_command i.target.name }
+
+abbrev pub item_value : Scope → Item → List ℕ
+item_value s i = give_all s (item_mode i) i.pieces
+
+abbrev pub is_item : Scope → Item → List ℕ → Bool
+is_item s i after = is_reference i.target && (are_value (item_mode i) i.pieces after && is_short (item_value s i))
+
+-- NAME means NAME[0]
+abbrev pub assigned : Scope → Item → Assignment
+assigned s i = record { name = i.target.name; number = unwrap_or i.target.number 0; value = item_value s i }
+
+pub data Token : Type 0 where
+  Blank : ℕ → Token
+  Semicolon : Token
+  LineEnd : Token
+  Comment : List ℕ → Token
+  Set : Item → Token
+
+abbrev pub spell_token : Token → List ℕ
+spell_token (Blank b) = b ∷ []
+spell_token Semicolon = SEMICOLON ∷ []
+spell_token LineEnd = LINE_FEED ∷ []
+spell_token (Comment text) = HASH ∷ text
+spell_token (Set i) = spell_item i
+
+-- the end of the text ends a line too
+abbrev pub ends_line : List ℕ → Bool
+ends_line [] = true
+ends_line (b ∷ bs) = b == LINE_FEED
+
+abbrev pub is_token : Scope → Token → List ℕ → Bool
+is_token s (Blank b) after = is_blank b
+is_token s Semicolon after = true
+is_token s LineEnd after = true
+is_token s (Comment text) after = lacks LINE_FEED text && ends_line after
+is_token s (Set i) after = is_item s i after
+
+abbrev pub may_stand : Place → Token → Bool
+may_stand place (Blank b) = true
+may_stand place Semicolon = may_part place.last
+may_stand place LineEnd = true
+may_stand place (Comment text) = place.spaced
+may_stand place (Set i) = may_set place.last place.spaced
+
+abbrev pub place_after : Place → Token → Place
+place_after place (Blank b) = after_blank place
+place_after place Semicolon = after_semicolon place
+place_after place LineEnd = line_start
+place_after place (Comment text) = place
+place_after place (Set i) = after_assignment
+
+abbrev pub assigns : Scope → Token → List Assignment
+assigns s (Set i) = assigned s i ∷ []
+assigns s _ = []
+
+abbrev pub spell_tokens : List Token → List ℕ
+spell_tokens [] = []
+spell_tokens (t ∷ ts) = spell_token t ++ spell_tokens ts
+
+-- the assignments so far are those that a token's variables look at
+abbrev pub scope : Given → List Assignment → Scope
+scope g earlier = record { given = g; earlier = earlier }
+
+-- each token is whole and may stand where it stands
+abbrev pub are_lines : Given → List Assignment → Place → List Token → List ℕ → Bool
+are_lines g earlier place [] rest = true
+are_lines g earlier place (t ∷ ts) rest = (may_stand place t && is_token (scope g earlier) t (spell_tokens ts ++ rest)) && are_lines g (earlier ++ assigns (scope g earlier) t) (place_after place t) ts rest
+
+abbrev pub assign_all : Given → List Assignment → List Token → List Assignment
+assign_all g earlier [] = earlier
+assign_all g earlier (t ∷ ts) = assign_all g (earlier ++ assigns (scope g earlier) t) ts
+
+-- one token: what it assigns, where the next one stands, and what follows it
+pub record Step : Type 0 where
+  pub place : Place
+  pub assigned : List Assignment
+  pub rest : List ℕ
+
+pub record IsStep (s : Scope) (place : Place) (text : List ℕ) (step : Step) : Type 0 where
+  pub token : Token
+  pub spelled : text ≡ spell_token token ++ step.rest
+  pub stands : IsTrue (may_stand place token)
+  pub whole : IsTrue (is_token s token step.rest)
+  pub next_place : step.place ≡ place_after place token
+  pub assignments : step.assigned ≡ assigns s token
+
+pub record IsAssignment (s : Scope) (text : List ℕ) (a : Assignment) (after : List ℕ) : Type 0 where
+  pub item : Item
+  pub spelled : text ≡ spell_item item ++ after
+  pub whole : IsTrue (is_item s item after)
+  pub made : a ≡ assigned s item
+
+abbrev pub AssignmentAt : Scope → List ℕ → Assignment × List ℕ → Type 0
+AssignmentAt s text found = IsAssignment s text found.0 found.1

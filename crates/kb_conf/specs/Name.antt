@@ -1,0 +1,33 @@
+-- What an assignment or a variable is called: NAME or NAME[N].
+use Rattle.std.specs.Prelude.{ℕ, ◌+◌, ◌/◌, ◌%◌, Bool, true, false, not, ◌&&◌, List, [], ◌∷◌, ◌++◌, Option, Some, None, nat_lt, if◌then◌else◌}
+use Rattle.std.specs.List.{list_all}
+use Rattle.kb_conf.specs.declared.bytes.TheConstants.{ZERO, OPEN_BRACKET, CLOSE_BRACKET}
+use Rattle.kb_conf.specs.Bytes.{starts_name, continues_name}
+
+-- a letter or _, and then letters, digits and _
+abbrev pub is_name : List ℕ → Bool
+is_name [] = false
+is_name (b ∷ bs) = starts_name b && list_all continues_name bs
+
+-- a number below 1000 in decimal digits, without leading zeros
+unfoldable pub decimal : ℕ → List ℕ
+decimal n = if nat_lt n 10 then (ZERO + n) ∷ [] else if nat_lt n 100 then (ZERO + n / 10) ∷ (ZERO + n % 10) ∷ [] else (ZERO + n / 100) ∷ (ZERO + n / 10 % 10) ∷ (ZERO + n % 10) ∷ []
+
+pub record Reference : Type 0 where
+  pub name : List ℕ
+  pub number : Option ℕ
+
+abbrev pub subscript : Option ℕ → List ℕ
+subscript None = []
+subscript (Some n) = OPEN_BRACKET ∷ (decimal n ++ CLOSE_BRACKET ∷ [])
+
+-- numbers go from 0 to 255
+abbrev pub is_number : Option ℕ → Bool
+is_number None = true
+is_number (Some n) = nat_lt n 256
+
+abbrev pub spell_reference : Reference → List ℕ
+spell_reference r = r.name ++ subscript r.number
+
+abbrev pub is_reference : Reference → Bool
+is_reference r = is_name r.name && is_number r.number
