@@ -232,16 +232,30 @@ const WORDS: [Words; 14] = [
     ),
 ];
 
+fn answers(
+    rt: &impl Abort,
+    alloc: Global,
+    words: &[&str],
+    status: u8,
+    out: &str,
+    err: &str,
+) -> Result<(), Fail> {
+    let mut world = plain_world(rt, alloc)?;
+    let given = answer_to(alloc, &mut world, words)?;
+    assert!(rt; given.status == status, "status of {words:?}");
+    assert!(rt; given.out.as_str() == out, "out of {words:?}");
+    assert!(rt; given.err.as_str() == err, "err of {words:?}");
+    assert!(rt;
+        link_at(alloc, &world, LINK)?.is_none(),
+        "link of {words:?}"
+    );
+    Ok(())
+}
+
 #[test]
 fn words_have_their_answers(rt: HostRuntime) -> Result<(), Fail> {
-    let alloc = rt.alloc();
-    for Words(words, status, out, err) in &WORDS {
-        let mut world = plain_world(&rt, alloc)?;
-        let given = answer_to(alloc, &mut world, words)?;
-        assert_eq!(rt; given.status, *status, "status of {words:?}");
-        assert_eq!(rt; given.out.as_str(), *out, "out of {words:?}");
-        assert_eq!(rt; given.err.as_str(), *err, "err of {words:?}");
-        assert_eq!(rt; link_at(alloc, &world, LINK)?.unwrap_or("none"), "none");
+    for row in &WORDS {
+        answers(&rt, rt.alloc(), row.0, row.1, row.2, row.3)?;
     }
     Ok(())
 }
@@ -305,16 +319,29 @@ const REFUSED: [Refused; 6] = [
     ),
 ];
 
+// `dkms add hello/1.0` in the world, with more in it, is refused so.
+fn refuses(
+    rt: &impl Abort,
+    alloc: Global,
+    mut world: MemoryWorld,
+    entries: &[Entry],
+    status: u8,
+    err: &str,
+) -> Result<(), Fail> {
+    put_all(rt, alloc, &mut world, entries)?;
+    let given = answer_to(alloc, &mut world, &ADD_HELLO)?;
+    assert!(rt; given.status == status, "status where {err}");
+    assert!(rt; given.out.is_empty(), "out where {err}");
+    assert!(rt; given.err.as_str() == err, "err where {err}");
+    Ok(())
+}
+
 #[test]
 fn what_stands_refuses_it(rt: HostRuntime) -> Result<(), Fail> {
     let alloc = rt.alloc();
-    for Refused(entries, status, err) in &REFUSED {
-        let mut world = plain_world(&rt, alloc)?;
-        put_all(&rt, alloc, &mut world, entries)?;
-        let given = answer_to(alloc, &mut world, &ADD_HELLO)?;
-        assert_eq!(rt; given.status, *status, "where {err}");
-        assert_eq!(rt; given.out.as_str(), "");
-        assert_eq!(rt; given.err.as_str(), *err);
+    for row in &REFUSED {
+        let world = plain_world(&rt, alloc)?;
+        refuses(&rt, alloc, world, row.0, row.1, row.2)?;
     }
     Ok(())
 }
@@ -349,12 +376,9 @@ const LACKING: [Refused; 3] = [
 #[test]
 fn what_lacks_refuses_it(rt: HostRuntime) -> Result<(), Fail> {
     let alloc = rt.alloc();
-    for Refused(entries, status, err) in &LACKING {
-        let mut world = MemoryWorld::new(alloc, Roots::under(alloc, &Path::root(alloc))?)?;
-        put_all(&rt, alloc, &mut world, entries)?;
-        let given = answer_to(alloc, &mut world, &ADD_HELLO)?;
-        assert_eq!(rt; given.status, *status, "where {err}");
-        assert_eq!(rt; given.err.as_str(), *err);
+    for row in &LACKING {
+        let world = MemoryWorld::new(alloc, Roots::under(alloc, &Path::root(alloc))?)?;
+        refuses(&rt, alloc, world, row.0, row.1, row.2)?;
     }
     Ok(())
 }
