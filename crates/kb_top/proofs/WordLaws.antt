@@ -234,9 +234,10 @@ begins_dkms word rest other can = by_case can.1 can.2
   where
     by_case : (it : Command) → IsCommandLine (word ∷ rest ++ can.0) it → (word ≡ codes "dkms") × CanAdd rest
     by_case command.Help is = absurd (other_word word (codes "help") other (heads word (codes "help") (rest ++ can.0) [] is))
-    by_case (command.Add key) is =
-        (heads word (codes "dkms") (rest ++ can.0) (codes "add" ∷ is.0 ∷ []) is.1,
-        (can.0, is.0, tails word (codes "dkms") (rest ++ can.0) (codes "add" ∷ is.0 ∷ []) is.1, ap is_some (package_into is.0 key is.2)))
+    by_case (command.Add key) is = (
+      heads word (codes "dkms") (rest ++ can.0) (codes "add" ∷ is.0 ∷ []) is.1,
+      (can.0, is.0, tails word (codes "dkms") (rest ++ can.0) (codes "add" ∷ is.0 ∷ []) is.1, ap is_some (package_into is.0 key is.2)),
+    )
 
 help_alone : (word next : Word) (rest : List Word) → word ≡ codes "help" → CanBegin (word ∷ next ∷ rest) → ⊥
 help_alone word next rest same can = by_case can.1 can.2
