@@ -5,3 +5,4 @@ pub mod RunLaws
 pub mod ServeLaws
 pub mod Stays
 pub mod TellLaws
+pub mod WordLaws

@@ -1,5 +1,5 @@
 -- Command lines. After dkms(8), and this project's own.
-use Rattle.std.specs.Prelude.{◌≡◌, ◌≢◌, ℕ, ◌+◌, ◌<◌, ◌≤◌, Bool, true, false, cond, ◌&&◌, not, List, [], ◌∷◌, ◌++◌, length, take, nat_eq, Option, Some, None, Result, Ok, Err, codes, bytes_eq, Contains}
+use Rattle.std.specs.Prelude.{◌≡◌, ℕ, ◌+◌, ◌<◌, ◌≤◌, Bool, true, false, cond, ◌&&◌, not, List, [], ◌∷◌, ◌++◌, length, take, nat_eq, Option, Some, None, is_some, Result, Ok, Err, codes, bytes_eq}
 use Rattle.std.specs.List.{list_any, before_first, after_first}
 use Rattle.std.specs.Str.{byte}
 use Rattle.kb_world.specs.Names.{is_word, is_version}
@@ -83,11 +83,7 @@ command_of (first ∷ second ∷ third ∷ []) = cond (bytes_eq first (codes "dk
 command_of (first ∷ second ∷ third ∷ fourth ∷ rest) = None
 
 abbrev pub is_package : Word → Bool
-is_package word = is_some_key (package_in word)
-  where
-    is_some_key : Option Key → Bool
-    is_some_key (Some key) = true
-    is_some_key None = false
+is_package word = is_some (package_in word)
 
 -- how many of the words behind `dkms add` a command line can go on with
 abbrev pub words_of_add : List Word → ℕ
