@@ -1,4 +1,3 @@
 pub mod EditLaws
-pub mod NewWorlds
 pub mod NodeLaws
 pub mod PlanLaws

@@ -9,6 +9,3 @@ mod world;
 
 pub use sink::MemorySink;
 pub use world::MemoryWorld;
-
-#[cfg(test)]
-mod tests;
