@@ -81,8 +81,13 @@ fn put_all(
     Ok(())
 }
 
+// It says nothing of the world that it makes, so that nothing has to be carried along.
+fn empty_world(alloc: Global) -> Result<MemoryWorld, AllocError> {
+    MemoryWorld::new(alloc, Roots::under(alloc, &Path::root(alloc))?)
+}
+
 fn plain_world(rt: &impl Abort, alloc: Global) -> Result<MemoryWorld, Fail> {
-    let mut world = MemoryWorld::new(alloc, Roots::under(alloc, &Path::root(alloc))?)?;
+    let mut world = empty_world(alloc)?;
     put_all(rt, alloc, &mut world, &PLAIN)?;
     Ok(world)
 }
@@ -144,26 +149,29 @@ fn link_at<'a>(alloc: Global, world: &'a MemoryWorld, path: &str) -> Result<Opti
     }
 }
 
+// What is done to a world stands in functions that borrow it: a test that owns it takes minutes to prove.
+fn adds_once(rt: &impl Abort, alloc: Global, world: &mut MemoryWorld) -> Result<(), Fail> {
+    let added = answer_to(alloc, world, &ADD_HELLO)?;
+    assert!(rt; added.status == 0);
+    assert!(rt; added.out.as_str() == "hello/1.0: added\n");
+    assert!(rt; added.err.is_empty());
+    let again = answer_to(alloc, world, &ADD_HELLO)?;
+    assert!(rt; again.status == 4);
+    assert!(rt; again.out.is_empty());
+    assert!(rt; again.err.as_str() == "kmodboot: hello/1.0: already added\n");
+    Ok(())
+}
+
+// Whether the link of hello/1.0 stands.
+fn is_linked(alloc: Global, world: &MemoryWorld) -> Result<bool, Fail> {
+    Ok(link_at(alloc, world, LINK)?.unwrap_or("none") == "/usr/src/hello-1.0")
+}
+
 #[test]
 fn adds_a_package(rt: HostRuntime) -> Result<(), Fail> {
-    let alloc = rt.alloc();
-    let mut world = plain_world(&rt, alloc)?;
-    let added = answer_to(alloc, &mut world, &ADD_HELLO)?;
-    assert_eq!(rt; added.status, 0);
-    assert_eq!(rt; added.out.as_str(), "hello/1.0: added\n");
-    assert_eq!(rt; added.err.as_str(), "");
-    assert_eq!(rt;
-        link_at(alloc, &world, LINK)?.unwrap_or("none"),
-        "/usr/src/hello-1.0"
-    );
-    let again = answer_to(alloc, &mut world, &ADD_HELLO)?;
-    assert_eq!(rt; again.status, 4);
-    assert_eq!(rt; again.out.as_str(), "");
-    assert_eq!(rt; again.err.as_str(), "kmodboot: hello/1.0: already added\n");
-    assert_eq!(rt;
-        link_at(alloc, &world, LINK)?.unwrap_or("none"),
-        "/usr/src/hello-1.0"
-    );
+    let mut world = plain_world(&rt, rt.alloc())?;
+    adds_once(&rt, rt.alloc(), &mut world)?;
+    assert!(rt; is_linked(rt.alloc(), &world)?);
     Ok(())
 }
 
@@ -235,27 +243,23 @@ const WORDS: [Words; 14] = [
 fn answers(
     rt: &impl Abort,
     alloc: Global,
-    words: &[&str],
-    status: u8,
-    out: &str,
-    err: &str,
+    world: &mut MemoryWorld,
+    row: &Words,
 ) -> Result<(), Fail> {
-    let mut world = plain_world(rt, alloc)?;
-    let given = answer_to(alloc, &mut world, words)?;
-    assert!(rt; given.status == status, "status of {words:?}");
-    assert!(rt; given.out.as_str() == out, "out of {words:?}");
-    assert!(rt; given.err.as_str() == err, "err of {words:?}");
-    assert!(rt;
-        link_at(alloc, &world, LINK)?.is_none(),
-        "link of {words:?}"
-    );
+    let words = row.0;
+    let given = answer_to(alloc, world, words)?;
+    assert!(rt; given.status == row.1, "status of {words:?}");
+    assert!(rt; given.out.as_str() == row.2, "out of {words:?}");
+    assert!(rt; given.err.as_str() == row.3, "err of {words:?}");
+    assert!(rt; !is_linked(alloc, world)?, "link of {words:?}");
     Ok(())
 }
 
 #[test]
 fn words_have_their_answers(rt: HostRuntime) -> Result<(), Fail> {
+    let mut world = plain_world(&rt, rt.alloc())?;
     for row in &WORDS {
-        answers(&rt, rt.alloc(), row.0, row.1, row.2, row.3)?;
+        answers(&rt, rt.alloc(), &mut world, row)?;
     }
     Ok(())
 }
@@ -323,14 +327,13 @@ const REFUSED: [Refused; 6] = [
 fn refuses(
     rt: &impl Abort,
     alloc: Global,
-    mut world: MemoryWorld,
-    entries: &[Entry],
-    status: u8,
-    err: &str,
+    world: &mut MemoryWorld,
+    row: &Refused,
 ) -> Result<(), Fail> {
-    put_all(rt, alloc, &mut world, entries)?;
-    let given = answer_to(alloc, &mut world, &ADD_HELLO)?;
-    assert!(rt; given.status == status, "status where {err}");
+    put_all(rt, alloc, world, row.0)?;
+    let given = answer_to(alloc, world, &ADD_HELLO)?;
+    let err = row.2;
+    assert!(rt; given.status == row.1, "status where {err}");
     assert!(rt; given.out.is_empty(), "out where {err}");
     assert!(rt; given.err.as_str() == err, "err where {err}");
     Ok(())
@@ -340,8 +343,8 @@ fn refuses(
 fn what_stands_refuses_it(rt: HostRuntime) -> Result<(), Fail> {
     let alloc = rt.alloc();
     for row in &REFUSED {
-        let world = plain_world(&rt, alloc)?;
-        refuses(&rt, alloc, world, row.0, row.1, row.2)?;
+        let mut world = plain_world(&rt, alloc)?;
+        refuses(&rt, alloc, &mut world, row)?;
     }
     Ok(())
 }
@@ -377,40 +380,41 @@ const LACKING: [Refused; 3] = [
 fn what_lacks_refuses_it(rt: HostRuntime) -> Result<(), Fail> {
     let alloc = rt.alloc();
     for row in &LACKING {
-        let world = MemoryWorld::new(alloc, Roots::under(alloc, &Path::root(alloc))?)?;
-        refuses(&rt, alloc, world, row.0, row.1, row.2)?;
+        let mut world = empty_world(alloc)?;
+        refuses(&rt, alloc, &mut world, row)?;
     }
+    Ok(())
+}
+
+// One look at the journal's place, two at the roots, five at the package's places and one more come before it.
+fn faults(rt: &impl Abort, alloc: Global, world: &mut MemoryWorld) -> Result<(), Fail> {
+    world.fail_at(vec![in alloc; 10]?);
+    let given = answer_to(alloc, world, &ADD_HELLO)?;
+    assert!(rt; given.status == 70);
+    assert!(rt; given.out.is_empty());
+    assert!(rt; given.err.as_str() == "kmodboot: a file or program call failed\n");
     Ok(())
 }
 
 #[test]
 fn a_failing_make_dir_is_a_fault(rt: HostRuntime) -> Result<(), Fail> {
-    let alloc = rt.alloc();
-    let mut world = plain_world(&rt, alloc)?;
-    // One look at the journal's place, two at the roots, five at the package's places and one more come before it.
-    world.fail_at(vec![in alloc; 10]?);
-    let given = answer_to(alloc, &mut world, &ADD_HELLO)?;
-    assert_eq!(rt; given.status, 70);
-    assert_eq!(rt; given.out.as_str(), "");
-    assert_eq!(rt;
-        given.err.as_str(),
-        "kmodboot: a file or program call failed\n"
-    );
+    let mut world = plain_world(&rt, rt.alloc())?;
+    faults(&rt, rt.alloc(), &mut world)
+}
+
+fn cuts_short(rt: &impl Abort, alloc: Global, world: &mut MemoryWorld) -> Result<(), Fail> {
+    let mut out = MemorySink::new(alloc);
+    let mut err = MemorySink::new(alloc);
+    out.fail_at(vec![in alloc; 1]?);
+    let status = start_with(alloc, world, &ADD_HELLO, &mut out, &mut err)?;
+    assert!(rt; status == 74);
     Ok(())
 }
 
 #[test]
 fn a_failing_write_comes_after_the_link(rt: HostRuntime) -> Result<(), Fail> {
-    let alloc = rt.alloc();
-    let mut world = plain_world(&rt, alloc)?;
-    let mut out = MemorySink::new(alloc);
-    let mut err = MemorySink::new(alloc);
-    out.fail_at(vec![in alloc; 1]?);
-    let status = start_with(alloc, &mut world, &ADD_HELLO, &mut out, &mut err)?;
-    assert_eq!(rt; status, 74);
-    assert_eq!(rt;
-        link_at(alloc, &world, LINK)?.unwrap_or("none"),
-        "/usr/src/hello-1.0"
-    );
+    let mut world = plain_world(&rt, rt.alloc())?;
+    cuts_short(&rt, rt.alloc(), &mut world)?;
+    assert!(rt; is_linked(rt.alloc(), &world)?);
     Ok(())
 }
