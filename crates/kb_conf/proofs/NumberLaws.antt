@@ -92,9 +92,9 @@ small_again : (n : ℕ) → n < 256 → below_256 n ≡ Some n
 small_again n h = rw (lt-ltb n 256 h) refl
 
 -- what a number is read as again, with its digits
-record ReadAgain (ds : List ℕ) (n : ℕ) : Type 0 where
-  digits : list_all is_ascii_digit ds ≡ true
-  value : number_of ds ≡ Some n
+pub record ReadAgain (ds : List ℕ) (n : ℕ) : Type 0 where
+  pub digits : list_all is_ascii_digit ds ≡ true
+  pub value : number_of ds ≡ Some n
 
 two_again : (x y : ℕ) → 0 < x → x < 10 → y < 10 → ReadAgain ((48 + x) ∷ (48 + y) ∷ []) (10 * x + y)
 two_again x y low high small =
@@ -119,7 +119,7 @@ three_again x y z low high small least limit =
 moved : (ds es : List ℕ) (m n : ℕ) → es ≡ ds → n ≡ m → ReadAgain ds m → ReadAgain es n
 moved ds es m n same_digits same_number r = record { digits = ap (list_all is_ascii_digit) same_digits ∙ r.digits; value = ap number_of same_digits ∙ r.value ∙ ap (λ (k : ℕ). Some k) (sym same_number) }
 
-digits_again : (n : ℕ) → n < 256 → ReadAgain (decimal n) n
+pub digits_again : (n : ℕ) → n < 256 → ReadAgain (decimal n) n
 digits_again n h = elim (cases_lt n 10) [
   | inl one ↦
       let digit = range_digit n one in

@@ -12,7 +12,8 @@ use Rattle.kb_conf.specs.Piece.{Piece, Mode, spell, fits, mode_after}
 use Rattle.kb_conf.specs.Place.{line_start, after_assignment}
 use Rattle.kb_conf.specs.Front.{piece_at, reference_at, plain_at}
 use Rattle.kb_conf.specs.Value.{Scope, ReadsValue, gives, spell_pieces, are_value, give_all, ends_item, IsShortValue}
-use Rattle.kb_conf.specs.Line.{Item, Token, Blank, Semicolon, LineEnd, Comment, Set, Step, IsStep, IsAssignment, AssignmentAt, scope, spell_item, spell_token, spell_tokens, is_token, may_stand, place_after, assigns, are_lines, assign_all}
+use Rattle.kb_conf.specs.Line.{Item, Token, Blank, Semicolon, LineEnd, Comment, Set, Step, IsStep, IsAssignment, AssignmentAt, spell_item, spell_token, spell_tokens, is_token, may_stand, place_after, assigns, are_lines, assign_all}
+use Rattle.kb_conf.specs.Value.{scope}
 use Rattle.kb_conf.specs.Reading.{IsReading, IsGood, IsFurthest, IsBadLine, line_of}
 use Rattle.kb_conf.proofs.PieceLaws.{piece_again}
 use Rattle.kb_conf.proofs.ValueLaws.{behind_piece, at_end, no_piece_at_end}

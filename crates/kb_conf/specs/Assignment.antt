@@ -14,7 +14,8 @@ is_of name number a = bytes_eq a.name name && a.number == number
 
 unfoldable pub last_value : List Assignment → List ℕ → ℕ → Option (List ℕ)
 last_value [] name number = None
-last_value (a ∷ later) name number = option_or (last_value later name number) (if is_of name number a then Some a.value else None)
+last_value (a ∷ later) name number =
+    option_or (last_value later name number) (if is_of name number a then Some a.value else None)
 
 -- what the caller gives a conf: the kernel, its architecture, and three directories
 pub record Given : Type 0 where

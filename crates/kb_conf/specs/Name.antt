@@ -11,7 +11,10 @@ is_name (b ∷ bs) = starts_name b && list_all continues_name bs
 
 -- a number below 1000 in decimal digits, without leading zeros
 unfoldable pub decimal : ℕ → List ℕ
-decimal n = if nat_lt n 10 then (ZERO + n) ∷ [] else if nat_lt n 100 then (ZERO + n / 10) ∷ (ZERO + n % 10) ∷ [] else (ZERO + n / 100) ∷ (ZERO + n / 10 % 10) ∷ (ZERO + n % 10) ∷ []
+decimal n =
+    if nat_lt n 10 then (ZERO + n) ∷ []
+    else if nat_lt n 100 then (ZERO + n / 10) ∷ (ZERO + n % 10) ∷ []
+    else (ZERO + n / 100) ∷ (ZERO + n / 10 % 10) ∷ (ZERO + n % 10) ∷ []
 
 pub record Reference : Type 0 where
   pub name : List ℕ
