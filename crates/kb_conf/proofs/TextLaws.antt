@@ -1,9 +1,9 @@
 -- What a good text assigns is UTF-8.
-use Rattle.std.proofs.Common.{◌≡◌, ℕ, ◌+◌, ◌-◌, ◌/◌, ◌%◌, ◌<◌, ◌≤◌, Bool, true, false, not, ◌&&◌, cond, eqb, ltb, List, [], ◌∷◌, ◌++◌, length, take, drop, get_or, refl, sym, ap, ◌∙◌, subst, arith, Option, Some, None, append_assoc, zero, suc, inl, inr, ◌||◌, lit<}
-use Rattle.std.specs.List.{list_all, AllByRecursion, prefix_len}
-use Rattle.std.specs.Prelude.{unwrap_or, option_map, codes}
+use Rattle.std.proofs.Common.{◌≡◌, ℕ, ◌+◌, ◌<◌, ◌≤◌, Bool, true, false, not, ◌&&◌, cond, eqb, ltb, List, [], ◌∷◌, ◌++◌, length, take, drop, get_or, refl, sym, ap, ◌∙◌, subst, arith, Option, Some, None, append_assoc, zero, suc, inl, inr, ◌||◌, lit<}
+use Rattle.std.specs.List.{list_all, AllByRecursion}
+use Rattle.std.specs.Prelude.{unwrap_or, codes}
 use Rattle.std.specs.Option.{option_or}
-use Rattle.std.specs.Str.{IsUtf8, is_utf8, IsCharBoundary, bytes_eq}
+use Rattle.std.specs.Str.{IsUtf8, is_utf8, bytes_eq}
 use Rattle.std.specs.Str.Lossy.{utf8_valid_len, valid_len_up_to}
 use Rattle.std.specs.Char.{is_ascii_digit}
 use Rattle.kb_conf.proofs.NumberLaws.{digits_again}
@@ -12,19 +12,19 @@ use Rattle.std.proofs.lemmas.List.{length-append, take_at, drop_at, append-nil}
 use Rattle.std.proofs.lemmas.Bool.{and_parts, and_from, ltb-true, eqb-true}
 use Rattle.std.proofs.lemmas.Bool.Decides.{nat_tests}
 use Rattle.kb_conf.specs.Bytes.{starts_name, continues_name, is_active, is_blank}
-use Rattle.kb_conf.specs.declared.bytes.TheConstants.{NUL, LINE_FEED, HASH, QUOTE, SEMICOLON, BACKSLASH, DOLLAR, APOSTROPHE, OPEN_BRACE, CLOSE_BRACE, CLOSE_BRACKET, EQUALS}
+use Rattle.kb_conf.specs.declared.bytes.TheConstants.{LINE_FEED, HASH, QUOTE, SEMICOLON, BACKSLASH, DOLLAR, APOSTROPHE, OPEN_BRACE, CLOSE_BRACE, CLOSE_BRACKET, EQUALS}
 use Rattle.kb_conf.specs.declared.place.Place.{Place}
 use Rattle.kb_conf.specs.Assignment.{Assignment, Given, given_value, last_value, is_of}
 use Rattle.kb_conf.specs.Line.{Item, Token, Blank, Semicolon, LineEnd, Comment, Set, spell_item, item_mode, item_value, is_item, assigned, spell_token, spell_tokens, is_token, may_stand, place_after, assigns, are_lines, assign_all, ends_line}
 use Rattle.kb_conf.specs.Value.{scope}
 use Rattle.kb_conf.specs.Place.{line_start}
-use Rattle.kb_conf.specs.Reading.{IsGood, sound_len}
+use Rattle.kb_conf.specs.Reading.{IsGood}
 use Rattle.kb_conf.specs.TextOf.{IsTextAssignment, IsTextGiven}
 use Rattle.kb_conf.proofs.Tools.{chosen}
 use Rattle.std.proofs.lemmas.Option.{none-some, cond_some, same_Some}
 use Rattle.kb_conf.specs.Name.{Reference, is_name, is_number, is_reference, subscript, spell_reference, decimal}
 use Rattle.kb_conf.specs.Piece.{Piece, Bare, Escaped, Single, Quote, Plain, Braced, Command, Backquoted, Dollar, Mode, spell, fits, mode_after, lacks}
-use Rattle.kb_conf.specs.Value.{Scope, gives, give_all, escape, expand, look_up, spell_pieces, are_value, ends_item, is_short}
+use Rattle.kb_conf.specs.Value.{Scope, gives, give_all, expand, look_up, spell_pieces, are_value, ends_item}
 
 -- the longest valid front is UTF-8
 valid_front : (bs : List ℕ) (k : ℕ) → IsUtf8 (take (valid_len_up_to bs k) bs)

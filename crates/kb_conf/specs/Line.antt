@@ -1,5 +1,5 @@
 -- The lines of a dkms.conf, after dkms(8), and the assignments that they make.
-use Rattle.std.specs.Prelude.{◌≡◌, ℕ, Bool, true, false, ◌&&◌, ◌||◌, List, [], ◌∷◌, ◌++◌, unwrap_or, ◌==◌, IsTrue, codes}
+use Rattle.std.specs.Prelude.{◌≡◌, ℕ, Bool, true, ◌&&◌, ◌||◌, List, [], ◌∷◌, ◌++◌, unwrap_or, ◌==◌, IsTrue, codes}
 use Rattle.std.specs.Str.{bytes_eq}
 use Rattle.kb_conf.specs.declared.bytes.TheConstants.{LINE_FEED, HASH, SEMICOLON, EQUALS}
 use Rattle.kb_conf.specs.declared.place.Place.{Place}

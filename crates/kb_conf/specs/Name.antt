@@ -1,5 +1,5 @@
 -- What an assignment or a variable is called: NAME or NAME[N].
-use Rattle.std.specs.Prelude.{ℕ, ◌+◌, ◌/◌, ◌%◌, Bool, true, false, not, ◌&&◌, List, [], ◌∷◌, ◌++◌, Option, Some, None, nat_lt, if◌then◌else◌}
+use Rattle.std.specs.Prelude.{ℕ, ◌+◌, ◌/◌, ◌%◌, Bool, true, false, ◌&&◌, List, [], ◌∷◌, ◌++◌, Option, Some, None, nat_lt, if◌then◌else◌}
 use Rattle.std.specs.List.{list_all}
 use Rattle.kb_conf.specs.declared.bytes.TheConstants.{ZERO, OPEN_BRACKET, CLOSE_BRACKET}
 use Rattle.kb_conf.specs.Bytes.{starts_name, continues_name}

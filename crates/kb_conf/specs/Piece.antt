@@ -1,8 +1,8 @@
 -- The pieces of a value, after dkms(8) and the shell that reads the file there: how each is spelled,
 -- and where it may stand.
-use Rattle.std.specs.Prelude.{◌≡◌, ℕ, ◌+◌, ◌-◌, Bool, true, false, not, ◌&&◌, ◌||◌, List, [], ◌∷◌, ◌++◌, Option, Some, None, ◌==◌, IsTrue, if◌then◌else◌, nat_lt}
+use Rattle.std.specs.Prelude.{ℕ, ◌+◌, ◌-◌, Bool, true, not, ◌&&◌, List, [], ◌∷◌, ◌++◌, ◌==◌, if◌then◌else◌}
 use Rattle.std.specs.List.{list_all}
-use Rattle.kb_conf.specs.declared.bytes.TheConstants.{LINE_FEED, QUOTE, DOLLAR, APOSTROPHE, OPEN_PARENTHESIS, CLOSE_PARENTHESIS, BACKSLASH, BACKQUOTE, OPEN_BRACE, CLOSE_BRACE}
+use Rattle.kb_conf.specs.declared.bytes.TheConstants.{QUOTE, DOLLAR, APOSTROPHE, OPEN_PARENTHESIS, CLOSE_PARENTHESIS, BACKSLASH, BACKQUOTE, OPEN_BRACE, CLOSE_BRACE}
 use Rattle.kb_conf.specs.Bytes.{stands_for_itself, continues_name, begins_expansion}
 use Rattle.kb_conf.specs.Name.{Reference, is_name, is_reference, spell_reference}
 

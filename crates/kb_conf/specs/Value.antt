@@ -1,5 +1,5 @@
 -- What the pieces of a value give.
-use Rattle.std.specs.Prelude.{◌≡◌, IsTrue, ℕ, Bool, true, false, not, ◌&&◌, ◌||◌, List, [], ◌∷◌, ◌++◌, Option, Some, None, unwrap_or, ◌==◌, if◌then◌else◌, nat_le, length}
+use Rattle.std.specs.Prelude.{◌≡◌, IsTrue, ℕ, Bool, true, false, not, ◌&&◌, ◌||◌, List, [], ◌∷◌, ◌++◌, Option, None, unwrap_or, ◌==◌, if◌then◌else◌, nat_le, length}
 use Rattle.std.specs.Option.{option_or}
 use Rattle.kb_conf.specs.declared.bytes.TheConstants.{LINE_FEED, DOLLAR, BACKSLASH, SEMICOLON}
 use Rattle.kb_conf.specs.declared.value.TheConstants.{LONGEST_VALUE}

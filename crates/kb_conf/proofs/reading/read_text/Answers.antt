@@ -1,4 +1,4 @@
-use Rattle.std.proofs.Common.{◌≡◌, List, Option, sym, ap, ◌∙◌, subst, arith}
+use Rattle.std.proofs.Common.{List, Option, sym, subst, arith}
 use Rattle.kb_conf.specs.Assignment.{Assignment, Given}
 use Rattle.kb_conf.specs.GivenView.{view_given}
 use Rattle.kb_conf.specs.Line.{IsStep}
