@@ -1,16 +1,16 @@
 -- One assignment is read at the front of a text, and no other.
-use Rattle.std.proofs.Common.{◌≡◌, ℕ, Bool, true, false, not, ◌&&◌, eqb, List, [], ◌∷◌, ◌++◌, refl, sym, ap, ◌∙◌, subst, Option, Some, None, append_assoc}
+use Rattle.std.proofs.Common.{◌≡◌, ℕ, false, ◌&&◌, List, ◌∷◌, ◌++◌, refl, sym, ap, ◌∙◌, subst, Some, None, append_assoc}
 use Rattle.std.specs.Prelude.{unwrap_or}
 use Rattle.std.proofs.lemmas.Bool.{and_parts, and_from}
 use Rattle.std.proofs.lemmas.Option.{none-some, some_pair_parts}
 use Rattle.kb_conf.specs.declared.bytes.TheConstants.{EQUALS}
 use Rattle.kb_conf.specs.Name.{Reference, is_reference, spell_reference}
-use Rattle.kb_conf.specs.Piece.{Piece, Mode}
+use Rattle.kb_conf.specs.Piece.{Mode}
 use Rattle.kb_conf.specs.Front.{byte_at, reference_at}
 use Rattle.kb_conf.specs.Assignment.{Assignment}
-use Rattle.kb_conf.specs.Value.{Scope, IsShortValue, spell_pieces, give_all, are_value, is_short}
+use Rattle.kb_conf.specs.Value.{Scope, IsShortValue, spell_pieces, are_value, is_short}
 use Rattle.kb_conf.specs.Only.{IsOnly}
-use Rattle.kb_conf.specs.Line.{Item, spell_item, item_mode, item_value, is_item, assigned, is_command, IsAssignment, AssignmentAt}
+use Rattle.kb_conf.specs.Line.{Item, spell_item, item_mode, item_value, is_command, IsAssignment, AssignmentAt}
 use Rattle.kb_conf.proofs.SpanLaws.{byte_found, byte_again}
 use Rattle.kb_conf.proofs.ReferenceLaws.{reference_found, reference_again}
 

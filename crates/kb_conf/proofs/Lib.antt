@@ -9,3 +9,4 @@ pub mod AssignmentLaws
 pub mod StepLaws
 pub mod ReadingLaws
 pub mod OneMeaning
+pub mod TextLaws

@@ -1,17 +1,15 @@
 -- A number is found as the digits that spell it, and no other way.
-use Rattle.std.proofs.Common.{◌≡◌, ℕ, ◌+◌, ◌-◌, ◌*◌, ◌/◌, ◌%◌, ◌<◌, ◌≤◌, ◌≢◌, Bool, true, false, not, ◌&&◌, cond, eqb, ltb, leb, List, [], ◌∷◌, ◌++◌, length, take, drop, refl, sym, ap, ◌∙◌, arith, rules, Option, Some, None, append_assoc, subst, ◌⊎◌, inl, inr}
+use Rattle.std.proofs.Common.{◌≡◌, ℕ, ◌+◌, ◌-◌, ◌*◌, ◌/◌, ◌%◌, ◌<◌, ◌≤◌, ◌≢◌, true, false, ◌&&◌, eqb, ltb, List, [], ◌∷◌, ◌++◌, length, take, drop, refl, sym, ap, ◌∙◌, arith, Some, None, inl, inr}
 use Rattle.std.specs.List.{prefix_len, list_all}
 use Rattle.std.specs.Char.{is_ascii_digit}
-use Rattle.std.specs.Prelude.{option_map, nat_eq}
-use Rattle.std.proofs.lemmas.Grind.{common_steps}
 use Rattle.std.proofs.lemmas.List.{drop_at, take_at, take-append-drop}
 use Rattle.std.proofs.lemmas.Bool.Decides.{nat_tests}
-use Rattle.std.proofs.lemmas.Bool.{eqb-true, eqb-false, eq-eqb, and_parts, and_from, not-true, not_from_false, false≢true, ltb-true, ltb-false, lt-ltb, le-ltb, ne_eqb, cases_lt}
-use Rattle.std.proofs.lemmas.Option.{cond_some, same_Some, none-some}
+use Rattle.std.proofs.lemmas.Bool.{eqb-false, and_parts, ltb-true, lt-ltb, le-ltb, ne_eqb, cases_lt}
+use Rattle.std.proofs.lemmas.Option.{cond_some, none-some}
 use Rattle.kb_conf.specs.Name.{decimal}
 use Rattle.kb_conf.specs.Front.{number_of, number_at, below_256}
 use Rattle.kb_conf.proofs.Tools.{mapped, chosen}
-use Rattle.kb_conf.proofs.SpanLaws.{stops, passes_front, stops_behind_front, length_of_front, joined}
+use Rattle.kb_conf.proofs.SpanLaws.{stops, passes_front, length_of_front, joined}
 
 digit_range : (a : ℕ) → is_ascii_digit a ≡ true → (48 ≤ a) × (a ≤ 57)
 digit_range a h = grind (arith, nat_tests)
@@ -92,9 +90,9 @@ small_again : (n : ℕ) → n < 256 → below_256 n ≡ Some n
 small_again n h = rw (lt-ltb n 256 h) refl
 
 -- what a number is read as again, with its digits
-record ReadAgain (ds : List ℕ) (n : ℕ) : Type 0 where
-  digits : list_all is_ascii_digit ds ≡ true
-  value : number_of ds ≡ Some n
+pub record ReadAgain (ds : List ℕ) (n : ℕ) : Type 0 where
+  pub digits : list_all is_ascii_digit ds ≡ true
+  pub value : number_of ds ≡ Some n
 
 two_again : (x y : ℕ) → 0 < x → x < 10 → y < 10 → ReadAgain ((48 + x) ∷ (48 + y) ∷ []) (10 * x + y)
 two_again x y low high small =
@@ -119,7 +117,7 @@ three_again x y z low high small least limit =
 moved : (ds es : List ℕ) (m n : ℕ) → es ≡ ds → n ≡ m → ReadAgain ds m → ReadAgain es n
 moved ds es m n same_digits same_number r = record { digits = ap (list_all is_ascii_digit) same_digits ∙ r.digits; value = ap number_of same_digits ∙ r.value ∙ ap (λ (k : ℕ). Some k) (sym same_number) }
 
-digits_again : (n : ℕ) → n < 256 → ReadAgain (decimal n) n
+pub digits_again : (n : ℕ) → n < 256 → ReadAgain (decimal n) n
 digits_again n h = elim (cases_lt n 10) [
   | inl one ↦
       let digit = range_digit n one in

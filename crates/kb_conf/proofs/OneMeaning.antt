@@ -1,5 +1,5 @@
 -- A text is cut in one way.
-use Rattle.std.proofs.Common.{◌≡◌, ℕ, ◌+◌, ◌-◌, ◌<◌, ◌≤◌, Bool, true, false, not, ◌&&◌, List, [], ◌∷◌, ◌++◌, length, refl, sym, ap, ◌∙◌, subst, arith, Option, Some, None, append_assoc, take, eqb}
+use Rattle.std.proofs.Common.{◌≡◌, ℕ, ◌+◌, ◌-◌, ◌<◌, ◌≤◌, true, not, ◌&&◌, List, [], ◌∷◌, ◌++◌, length, refl, sym, ap, ◌∙◌, subst, arith, Option, Some, None, append_assoc, take, eqb}
 use Rattle.std.specs.Prelude.{count_by}
 use Rattle.std.proofs.lemmas.Bool.{and_parts, not-true}
 use Rattle.std.proofs.lemmas.List.{length-append}
@@ -10,10 +10,11 @@ use Rattle.kb_conf.specs.Assignment.{Assignment, Given}
 use Rattle.kb_conf.specs.Name.{Reference, spell_reference}
 use Rattle.kb_conf.specs.Piece.{Piece, Mode, spell, fits, mode_after}
 use Rattle.kb_conf.specs.Place.{line_start, after_assignment}
-use Rattle.kb_conf.specs.Front.{piece_at, reference_at, plain_at}
-use Rattle.kb_conf.specs.Value.{Scope, ReadsValue, gives, spell_pieces, are_value, give_all, ends_item, IsShortValue}
-use Rattle.kb_conf.specs.Line.{Item, Token, Blank, Semicolon, LineEnd, Comment, Set, Step, IsStep, IsAssignment, AssignmentAt, scope, spell_item, spell_token, spell_tokens, is_token, may_stand, place_after, assigns, are_lines, assign_all}
-use Rattle.kb_conf.specs.Reading.{IsReading, IsGood, IsFurthest, IsBadLine, line_of}
+use Rattle.kb_conf.specs.Front.{piece_at, plain_at}
+use Rattle.kb_conf.specs.Value.{Scope, ReadsValue, gives, spell_pieces, are_value, give_all, ends_item}
+use Rattle.kb_conf.specs.Line.{Token, Blank, Semicolon, LineEnd, Comment, Set, Step, IsStep, IsAssignment, spell_token, spell_tokens, is_token, may_stand, place_after, assigns, are_lines, assign_all}
+use Rattle.kb_conf.specs.Value.{scope}
+use Rattle.kb_conf.specs.Reading.{IsGood, IsBadLine}
 use Rattle.kb_conf.proofs.PieceLaws.{piece_again}
 use Rattle.kb_conf.proofs.ValueLaws.{behind_piece, at_end, no_piece_at_end}
 use Rattle.kb_conf.proofs.AssignmentLaws.{value_mode, made_of, parts_of}

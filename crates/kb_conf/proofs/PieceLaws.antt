@@ -1,17 +1,17 @@
 -- A piece is found where it is spelled and may stand, and no other piece is.
-use Rattle.std.proofs.Common.{◌≡◌, ℕ, ◌+◌, ◌<◌, Bool, true, false, not, ◌&&◌, ◌||◌, cond, eqb, ltb, List, [], ◌∷◌, ◌++◌, length, take, ◌-◌, refl, sym, ap, ◌∙◌, arith, Option, Some, None, append_assoc, ◌⊎◌, inl, inr}
+use Rattle.std.proofs.Common.{◌≡◌, ℕ, ◌+◌, ◌<◌, Bool, true, false, not, cond, eqb, List, [], ◌∷◌, ◌++◌, length, take, ◌-◌, refl, sym, ap, ◌∙◌, arith, Option, Some, None, append_assoc, inl, inr}
 use Rattle.std.proofs.lemmas.List.{length-append, take_at}
 use Rattle.std.specs.Prelude.{option_map}
 use Rattle.std.proofs.lemmas.Bool.Decides.{nat_tests}
-use Rattle.std.proofs.lemmas.Bool.{eqb-true, and_parts, and_from, not-true, not_from_false, false≢true}
-use Rattle.std.proofs.lemmas.Option.{same_Some, none-some, some_pair_parts}
-use Rattle.kb_conf.specs.declared.bytes.TheConstants.{QUOTE, DOLLAR, APOSTROPHE, OPEN_PARENTHESIS, CLOSE_PARENTHESIS, BACKSLASH, BACKQUOTE, OPEN_BRACE, CLOSE_BRACE, OPEN_BRACKET}
-use Rattle.kb_conf.specs.Bytes.{starts_name, continues_name, begins_expansion, stands_for_itself}
-use Rattle.kb_conf.specs.Name.{Reference, is_name, is_reference, spell_reference}
+use Rattle.std.proofs.lemmas.Bool.{eqb-true, and_parts, and_from, not-true, false≢true}
+use Rattle.std.proofs.lemmas.Option.{same_Some, none-some}
+use Rattle.kb_conf.specs.declared.bytes.TheConstants.{QUOTE, DOLLAR, APOSTROPHE, OPEN_PARENTHESIS, CLOSE_PARENTHESIS, BACKSLASH, BACKQUOTE, OPEN_BRACE, CLOSE_BRACE}
+use Rattle.kb_conf.specs.Bytes.{starts_name, begins_expansion, stands_for_itself}
+use Rattle.kb_conf.specs.Name.{Reference, is_name, spell_reference}
 use Rattle.kb_conf.specs.Piece.{Piece, Bare, Escaped, Single, Quote, Plain, Braced, Command, Backquoted, Dollar, Mode, spell, fits, lacks, closes, ends_name, ends_dollar}
 use Rattle.kb_conf.specs.Front.{byte_at, until_byte, name_at, reference_at, closing_at, braced_at, expansion_at, escaped_at, piece_at, ◌>>=◌, IsNextPiece}
 use Rattle.kb_conf.proofs.Tools.{mapped, bound, chosen}
-use Rattle.kb_conf.proofs.SpanLaws.{stops, joined, byte_found, until_found, until_again, name_found, name_again, closing_found, closing_again}
+use Rattle.kb_conf.proofs.SpanLaws.{byte_found, until_found, until_again, name_found, name_again, closing_found, closing_again}
 use Rattle.kb_conf.proofs.ReferenceLaws.{reference_found, reference_again}
 
 -- the piece was spelled at the front of the text, and may stand there

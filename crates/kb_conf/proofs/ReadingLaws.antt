@@ -1,12 +1,13 @@
 -- A text is read item by item, as far as the grammar goes.
-use Rattle.std.proofs.Common.{◌≡◌, ℕ, ◌+◌, ◌-◌, ◌<◌, ◌≤◌, Bool, true, false, ◌&&◌, List, [], ◌∷◌, ◌++◌, length, refl, sym, ap, ◌∙◌, subst, arith, Option, Some, None, append_assoc, inl, inr, ◌⊎◌, eqb, suc}
+use Rattle.std.proofs.Common.{◌≡◌, ℕ, ◌+◌, ◌<◌, ◌≤◌, true, false, List, [], ◌∷◌, ◌++◌, length, refl, sym, ap, ◌∙◌, subst, arith, Some, append_assoc, inl, inr, ◌⊎◌, eqb, suc}
 use Rattle.std.proofs.lemmas.Bool.{and_parts, and_from, eqb-true, eqb-false}
 use Rattle.std.proofs.lemmas.List.{length-append}
 use Rattle.kb_conf.specs.declared.place.Place.{Place}
 use Rattle.kb_conf.specs.Assignment.{Assignment, Given}
 use Rattle.kb_conf.specs.Place.{line_start}
 use Rattle.kb_conf.specs.Only.{IsOnly}
-use Rattle.kb_conf.specs.Line.{Token, Step, IsStep, scope, spell_token, spell_tokens, is_token, may_stand, place_after, assigns, are_lines, assign_all}
+use Rattle.kb_conf.specs.Line.{Token, Step, IsStep, spell_token, spell_tokens, is_token, may_stand, place_after, assigns, are_lines, assign_all}
+use Rattle.kb_conf.specs.Value.{scope}
 use Rattle.kb_conf.specs.Reading.{IsReading, IsGood, IsFurthest, IsBadLine, sound_len, line_of}
 use Rattle.kb_conf.specs.Refusal.{AtBadLine}
 use Rattle.kb_conf.specs.declared.reading.ReadError.{ReadError}

@@ -1,14 +1,13 @@
 -- NAME and NAME[N] are found as they are spelled, and no other way.
-use Rattle.std.proofs.Common.{◌≡◌, ℕ, ◌+◌, ◌<◌, Bool, true, false, not, ◌&&◌, cond, eqb, ltb, List, [], ◌∷◌, ◌++◌, length, take, drop, refl, sym, ap, ◌∙◌, arith, Option, Some, None, append_assoc, ◌⊎◌, inl, inr}
-use Rattle.std.specs.Char.{is_ascii_digit}
+use Rattle.std.proofs.Common.{◌≡◌, ℕ, ◌<◌, true, eqb, List, [], ◌∷◌, ◌++◌, refl, sym, ap, ◌∙◌, arith, Option, Some, None, append_assoc, inl, inr}
 use Rattle.std.proofs.lemmas.Bool.{eqb-true, and_parts, and_from, not-true, ltb-true, lt-ltb}
-use Rattle.std.proofs.lemmas.Option.{same_Some, none-some}
+use Rattle.std.proofs.lemmas.Option.{same_Some}
 use Rattle.kb_conf.specs.declared.bytes.TheConstants.{OPEN_BRACKET, CLOSE_BRACKET}
 use Rattle.kb_conf.specs.Name.{Reference, is_name, is_number, is_reference, subscript, spell_reference, decimal}
 use Rattle.kb_conf.specs.Piece.{ends_name}
 use Rattle.kb_conf.specs.Front.{byte_at, number_at, bracketed_at, subscript_at, name_at, reference_at, ◌>>=◌}
 use Rattle.kb_conf.proofs.Tools.{mapped, bound, chosen}
-use Rattle.kb_conf.proofs.SpanLaws.{stops, joined, byte_found, byte_again, name_found, name_again}
+use Rattle.kb_conf.proofs.SpanLaws.{stops, joined, byte_found, name_found, name_again}
 use Rattle.kb_conf.proofs.NumberLaws.{number_found, number_again}
 
 pub bracketed_found : (text : List ℕ) (n : ℕ) (rest : List ℕ) → bracketed_at text ≡ Some (n, rest) → (n < 256) × (text ≡ decimal n ++ (CLOSE_BRACKET ∷ rest))

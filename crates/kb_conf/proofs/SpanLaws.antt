@@ -1,12 +1,12 @@
 -- What is found by one scan was spelled there, and what is spelled there is found again.
-use Rattle.std.proofs.Common.{◌≡◌, ℕ, ◌+◌, ◌-◌, ◌<◌, ◌≤◌, Bool, true, false, not, ◌&&◌, cond, eqb, ltb, List, [], ◌∷◌, ◌++◌, length, take, drop, refl, sym, ap, ◌∙◌, arith, rules, Option, Some, None, append_assoc, subst, ◌⊎◌, inl, inr}
+use Rattle.std.proofs.Common.{◌≡◌, ℕ, ◌+◌, Bool, true, false, not, ◌&&◌, cond, eqb, List, [], ◌∷◌, ◌++◌, length, take, drop, refl, sym, ap, ◌∙◌, arith, Some, inl, inr}
 use Rattle.std.specs.List.{prefix_len, list_all}
-use Rattle.std.specs.Prelude.{option_map, nat_eq}
+use Rattle.std.specs.Prelude.{nat_eq}
 use Rattle.std.proofs.lemmas.Grind.{common_steps}
 use Rattle.std.proofs.lemmas.List.{drop_at, take_at, take-append-drop}
 use Rattle.std.proofs.lemmas.Bool.Decides.{nat_tests}
-use Rattle.std.proofs.lemmas.Bool.{eqb-true, eqb-false, eq-eqb, and_parts, and_from, not-true, not_from_false, false≢true}
-use Rattle.kb_conf.specs.declared.bytes.TheConstants.{OPEN_PARENTHESIS, CLOSE_PARENTHESIS}
+use Rattle.std.proofs.lemmas.Bool.{eqb-true, eq-eqb, and_parts, and_from, not-true}
+use Rattle.kb_conf.specs.declared.bytes.TheConstants.{CLOSE_PARENTHESIS}
 use Rattle.kb_conf.specs.Bytes.{continues_name, starts_name}
 use Rattle.kb_conf.specs.Name.{is_name}
 use Rattle.kb_conf.specs.Piece.{lacks, ends_name, closes, depth_after}

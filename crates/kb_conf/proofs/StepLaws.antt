@@ -1,16 +1,16 @@
 -- One item of a line is read at the front of a text, and no other.
-use Rattle.std.proofs.Common.{◌≡◌, ℕ, Bool, true, false, not, ◌&&◌, ◌||◌, cond, eqb, List, [], ◌∷◌, ◌++◌, length, take, drop, refl, sym, ap, ◌∙◌, subst, arith, Option, Some, None, append_assoc, inl, inr, ◌⊎◌}
-use Rattle.std.specs.List.{prefix_len, list_all}
+use Rattle.std.proofs.Common.{◌≡◌, ℕ, Bool, true, false, not, ◌&&◌, eqb, List, [], ◌∷◌, ◌++◌, length, take, drop, refl, sym, ap, ◌∙◌, subst, arith, Option, Some, None, append_assoc, inl, inr, ◌⊎◌}
+use Rattle.std.specs.List.{prefix_len}
 use Rattle.std.proofs.lemmas.Bool.Decides.{nat_tests}
-use Rattle.std.proofs.lemmas.Bool.{eqb-true, and_parts, and_from, not-true, not-false, false≢true}
+use Rattle.std.proofs.lemmas.Bool.{eqb-true, and_parts, and_from, not-true, not-false}
 use Rattle.std.proofs.lemmas.List.{drop_at, take-append-drop}
 use Rattle.std.proofs.lemmas.Option.{none-some, some_pair_parts, same_Some}
 use Rattle.kb_conf.specs.declared.bytes.TheConstants.{LINE_FEED, HASH, SEMICOLON, EQUALS}
 use Rattle.kb_conf.specs.declared.place.Place.{Place}
 use Rattle.kb_conf.specs.Bytes.{is_blank, starts_name}
-use Rattle.kb_conf.specs.Name.{Reference, is_name, is_number, is_reference, subscript, spell_reference}
+use Rattle.kb_conf.specs.Name.{is_name, is_number, is_reference, subscript, spell_reference}
 use Rattle.kb_conf.specs.Piece.{lacks}
-use Rattle.kb_conf.specs.Place.{may_set, may_part, after_blank, after_semicolon, after_assignment, line_start}
+use Rattle.kb_conf.specs.Place.{may_set, may_part, after_assignment}
 use Rattle.kb_conf.specs.Front.{plain_at}
 use Rattle.kb_conf.specs.Assignment.{Assignment}
 use Rattle.kb_conf.specs.Value.{Scope, spell_pieces}

@@ -1,5 +1,5 @@
 -- What an answer of a chain of steps says of each step.
-use Rattle.std.proofs.Common.{◌≡◌, Bool, true, false, cond, refl, ap, Option, Some, None, inl, inr, ◌⊎◌}
+use Rattle.std.proofs.Common.{◌≡◌, Bool, true, false, cond, refl, Option, Some, None, inl, inr, ◌⊎◌}
 use Rattle.std.specs.Prelude.{option_map}
 use Rattle.kb_conf.specs.Front.{◌>>=◌}
 

@@ -1,17 +1,17 @@
 -- A value is read piece by piece.
-use Rattle.std.proofs.Common.{◌≡◌, ℕ, ◌+◌, ◌<◌, ◌≤◌, Bool, true, false, not, ◌&&◌, ◌||◌, cond, eqb, leb, List, [], ◌∷◌, ◌++◌, length, refl, sym, ap, ◌∙◌, subst, arith, Option, Some, None, append_assoc, inl, inr}
+use Rattle.std.proofs.Common.{◌≡◌, ℕ, ◌+◌, ◌<◌, ◌≤◌, true, false, not, ◌&&◌, ◌||◌, eqb, List, [], ◌∷◌, ◌++◌, length, refl, sym, ap, ◌∙◌, subst, arith, Some, None, append_assoc}
 use Rattle.std.proofs.lemmas.Bool.Decides.{nat_tests}
 use Rattle.std.proofs.lemmas.Bool.{and_parts, and_from, not-true, leb-true, le-leb, false≢true}
-use Rattle.std.proofs.lemmas.Option.{same_Some, none-some, some_pair_parts}
+use Rattle.std.proofs.lemmas.Option.{none-some, some_pair_parts}
 use Rattle.std.proofs.lemmas.List.{length-append, append-nil}
 use Rattle.kb_conf.specs.declared.value.TheConstants.{LONGEST_VALUE}
 use Rattle.kb_conf.specs.Bytes.{stands_for_itself, is_blank}
 use Rattle.kb_conf.specs.declared.bytes.TheConstants.{QUOTE, BACKSLASH, DOLLAR, BACKQUOTE, APOSTROPHE, SEMICOLON, LINE_FEED}
 use Rattle.kb_conf.specs.Piece.{Piece, Mode, spell, fits, mode_after}
 use Rattle.kb_conf.specs.Front.{piece_at}
-use Rattle.kb_conf.specs.Value.{Scope, ReadsValue, gives, give_all, spell_pieces, are_value, ends_item, is_short, IsShortValue}
+use Rattle.kb_conf.specs.Value.{Scope, ReadsValue, gives, give_all, spell_pieces, are_value, ends_item, IsShortValue}
 use Rattle.kb_conf.specs.Only.{IsOnly}
-use Rattle.kb_conf.proofs.PieceLaws.{piece_found, piece_again, Spelled}
+use Rattle.kb_conf.proofs.PieceLaws.{piece_found, piece_again}
 
 -- a byte that ends an item begins no piece outside double quotes
 record EndsItem (b : ℕ) : Type 0 where

@@ -1,5 +1,5 @@
 -- Assignments, and what a variable stands for behind them.
-use Rattle.std.specs.Prelude.{ℕ, Bool, ◌&&◌, List, [], ◌∷◌, Option, Some, None, option_map, unwrap_or, ◌==◌, if◌then◌else◌, codes}
+use Rattle.std.specs.Prelude.{ℕ, Bool, ◌&&◌, List, [], ◌∷◌, Option, Some, None, ◌==◌, if◌then◌else◌, codes}
 use Rattle.std.specs.Option.{option_or}
 use Rattle.std.specs.Str.{bytes_eq}
 
@@ -14,7 +14,8 @@ is_of name number a = bytes_eq a.name name && a.number == number
 
 unfoldable pub last_value : List Assignment → List ℕ → ℕ → Option (List ℕ)
 last_value [] name number = None
-last_value (a ∷ later) name number = option_or (last_value later name number) (if is_of name number a then Some a.value else None)
+last_value (a ∷ later) name number =
+    option_or (last_value later name number) (if is_of name number a then Some a.value else None)
 
 -- what the caller gives a conf: the kernel, its architecture, and three directories
 pub record Given : Type 0 where

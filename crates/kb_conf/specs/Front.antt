@@ -1,6 +1,6 @@
--- What stands at the front of a text, as plain functions. The grammar doesn't cite them: they are what the
--- reader's parts compute, and the laws in proofs/ tie them to the grammar.
-use Rattle.std.specs.Prelude.{◌≡◌, ℕ, ◌+◌, ◌-◌, ◌*◌, Bool, true, false, not, ◌&&◌, List, [], ◌∷◌, Option, Some, None, option_map, option_and_then, nat_lt, ◌==◌, if◌then◌else◌, take, drop, length, ◌<◌}
+-- What stands at the front of a text, as plain functions. The grammar doesn't cite them: they are what
+-- the reader's parts compute, and the laws in proofs/ tie them to the grammar.
+use Rattle.std.specs.Prelude.{◌≡◌, ℕ, ◌+◌, ◌-◌, ◌*◌, Bool, not, ◌&&◌, List, [], ◌∷◌, Option, Some, None, option_map, option_and_then, nat_lt, ◌==◌, if◌then◌else◌, take, drop, length, ◌<◌}
 use Rattle.std.specs.List.{prefix_len}
 use Rattle.std.specs.Char.{is_ascii_digit}
 use Rattle.kb_conf.specs.declared.bytes.TheConstants.{ZERO, QUOTE, DOLLAR, APOSTROPHE, OPEN_PARENTHESIS, CLOSE_PARENTHESIS, BACKSLASH, BACKQUOTE, OPEN_BRACE, CLOSE_BRACE, OPEN_BRACKET, CLOSE_BRACKET, LINE_FEED, SEMICOLON, HASH}
@@ -17,11 +17,15 @@ byte_at wanted (b ∷ bs) = if b == wanted then Some bs else None
 
 -- what stands before the first byte of this kind, and what follows that byte
 unfoldable pub until_byte : ℕ → List ℕ → Option (List ℕ × List ℕ)
-until_byte stop text = let n = prefix_len (λ b. not (b == stop)) text in option_map (λ rest. (take n text, rest)) (byte_at stop (drop n text))
+until_byte stop text =
+    let n = prefix_len (λ b. not (b == stop)) text in
+    option_map (λ rest. (take n text, rest)) (byte_at stop (drop n text))
 
 unfoldable pub name_at : List ℕ → Option (List ℕ × List ℕ)
 name_at [] = None
-name_at (b ∷ bs) = let n = prefix_len continues_name bs in if starts_name b then Some (b ∷ take n bs, drop n bs) else None
+name_at (b ∷ bs) =
+    let n = prefix_len continues_name bs in
+    if starts_name b then Some (b ∷ take n bs, drop n bs) else None
 
 abbrev pub below_256 : ℕ → Option ℕ
 below_256 n = if nat_lt n 256 then Some n else None
@@ -30,12 +34,16 @@ below_256 n = if nat_lt n 256 then Some n else None
 abbrev pub number_of : List ℕ → Option ℕ
 number_of [] = None
 number_of (a ∷ []) = below_256 (a - ZERO)
-number_of (a ∷ b ∷ []) = if a == ZERO then None else below_256 (10 * (a - ZERO) + (b - ZERO))
-number_of (a ∷ b ∷ c ∷ []) = if a == ZERO then None else below_256 (100 * (a - ZERO) + 10 * (b - ZERO) + (c - ZERO))
+number_of (a ∷ b ∷ []) =
+    if a == ZERO then None else below_256 (10 * (a - ZERO) + (b - ZERO))
+number_of (a ∷ b ∷ c ∷ []) =
+    if a == ZERO then None else below_256 (100 * (a - ZERO) + 10 * (b - ZERO) + (c - ZERO))
 number_of (a ∷ b ∷ c ∷ d ∷ more) = None
 
 unfoldable pub number_at : List ℕ → Option (ℕ × List ℕ)
-number_at text = let n = prefix_len is_ascii_digit text in option_map (λ number. (number, drop n text)) (number_of (take n text))
+number_at text =
+    let n = prefix_len is_ascii_digit text in
+    option_map (λ number. (number, drop n text)) (number_of (take n text))
 
 infixl 10 ◌>>=◌
 abbrev pub ◌>>=◌ : {A B : Type 0} → Option A → (A → Option B) → Option B
@@ -49,7 +57,9 @@ bracketed_at text = do
 
 unfoldable pub subscript_at : List ℕ → Option (Option ℕ × List ℕ)
 subscript_at [] = Some (None, [])
-subscript_at (b ∷ bs) = if b == OPEN_BRACKET then option_map (λ found. (Some found.0, found.1)) (bracketed_at bs) else Some (None, b ∷ bs)
+subscript_at (b ∷ bs) =
+    if b == OPEN_BRACKET then option_map (λ found. (Some found.0, found.1)) (bracketed_at bs)
+    else Some (None, b ∷ bs)
 
 unfoldable pub reference_at : List ℕ → Option (Reference × List ℕ)
 reference_at text = do
@@ -60,7 +70,9 @@ reference_at text = do
 -- what stands before the parenthesis that closes the last of those that are depth, and what follows it
 abbrev pub closing_at : ℕ → List ℕ → Option (List ℕ × List ℕ)
 closing_at depth [] = None
-closing_at depth (b ∷ bs) = if b == CLOSE_PARENTHESIS && depth == 0 then Some ([], bs) else option_map (λ found. (b ∷ found.0, found.1)) (closing_at (depth_after depth b) bs)
+closing_at depth (b ∷ bs) =
+    if b == CLOSE_PARENTHESIS && depth == 0 then Some ([], bs)
+    else option_map (λ found. (b ∷ found.0, found.1)) (closing_at (depth_after depth b) bs)
 
 -- the pieces that begin with a $, behind it
 unfoldable pub braced_at : List ℕ → Option (Piece × List ℕ)

@@ -13,3 +13,4 @@ pub mod Line
 pub mod LineViews
 pub mod Reading
 pub mod Refusal
+pub mod TextOf

@@ -1,5 +1,5 @@
 -- The lines of a dkms.conf, after dkms(8), and the assignments that they make.
-use Rattle.std.specs.Prelude.{◌≡◌, ℕ, Bool, true, false, ◌&&◌, ◌||◌, List, [], ◌∷◌, ◌++◌, unwrap_or, ◌==◌, IsTrue, codes}
+use Rattle.std.specs.Prelude.{◌≡◌, ℕ, Bool, true, ◌&&◌, ◌||◌, List, [], ◌∷◌, ◌++◌, unwrap_or, ◌==◌, IsTrue, codes}
 use Rattle.std.specs.Str.{bytes_eq}
 use Rattle.kb_conf.specs.declared.bytes.TheConstants.{LINE_FEED, HASH, SEMICOLON, EQUALS}
 use Rattle.kb_conf.specs.declared.place.Place.{Place}
@@ -7,7 +7,7 @@ use Rattle.kb_conf.specs.Bytes.{is_blank}
 use Rattle.kb_conf.specs.Name.{Reference, is_reference, spell_reference}
 use Rattle.kb_conf.specs.Piece.{Piece, Mode, lacks}
 use Rattle.kb_conf.specs.Assignment.{Assignment, Given}
-use Rattle.kb_conf.specs.Value.{Scope, spell_pieces, give_all, are_value, is_short}
+use Rattle.kb_conf.specs.Value.{Scope, scope, at_start, spell_pieces, give_all, are_value, is_short}
 use Rattle.kb_conf.specs.Place.{may_set, may_part, after_blank, after_semicolon, after_assignment, line_start}
 
 -- NAME=VALUE or NAME[N]=VALUE
@@ -23,17 +23,19 @@ abbrev pub is_command : List ℕ → Bool
 is_command name = bytes_eq name (codes "MAKE") || bytes_eq name (codes "CLEAN")
 
 abbrev pub item_mode : Item → Mode
-item_mode i = record { quoted = false; command = is_command i.target.name }
+item_mode i = at_start (is_command i.target.name)
 
 abbrev pub item_value : Scope → Item → List ℕ
 item_value s i = give_all s (item_mode i) i.pieces
 
 abbrev pub is_item : Scope → Item → List ℕ → Bool
-is_item s i after = is_reference i.target && (are_value (item_mode i) i.pieces after && is_short (item_value s i))
+is_item s i after =
+    is_reference i.target && (are_value (item_mode i) i.pieces after && is_short (item_value s i))
 
 -- NAME means NAME[0]
 abbrev pub assigned : Scope → Item → Assignment
-assigned s i = record { name = i.target.name; number = unwrap_or i.target.number 0; value = item_value s i }
+assigned s i =
+    record { name = i.target.name; number = unwrap_or i.target.number 0; value = item_value s i }
 
 pub data Token : Type 0 where
   Blank : ℕ → Token
@@ -83,14 +85,12 @@ abbrev pub spell_tokens : List Token → List ℕ
 spell_tokens [] = []
 spell_tokens (t ∷ ts) = spell_token t ++ spell_tokens ts
 
--- the assignments so far are those that a token's variables look at
-abbrev pub scope : Given → List Assignment → Scope
-scope g earlier = record { given = g; earlier = earlier }
-
--- each token is whole and may stand where it stands
+-- each token is whole and may stand where it stands. Its variables look at the assignments before it
 abbrev pub are_lines : Given → List Assignment → Place → List Token → List ℕ → Bool
 are_lines g earlier place [] rest = true
-are_lines g earlier place (t ∷ ts) rest = (may_stand place t && is_token (scope g earlier) t (spell_tokens ts ++ rest)) && are_lines g (earlier ++ assigns (scope g earlier) t) (place_after place t) ts rest
+are_lines g earlier place (t ∷ ts) rest =
+    (may_stand place t && is_token (scope g earlier) t (spell_tokens ts ++ rest))
+    && are_lines g (earlier ++ assigns (scope g earlier) t) (place_after place t) ts rest
 
 abbrev pub assign_all : Given → List Assignment → List Token → List Assignment
 assign_all g earlier [] = earlier

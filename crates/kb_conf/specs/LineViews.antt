@@ -13,7 +13,11 @@ abbrev pub assignment_view : Option (code.Assignment × Bor (List ℕ)) → Opti
 assignment_view o = option_map (λ (p : code.Assignment × Bor (List ℕ)). (view_assignment p.0, p.1.now)) o
 
 abbrev pub view_step : code_step.Step → Step
-view_step s = record { place = s.place; assigned = option_to_list (option_map view_assignment s.assignment); rest = s.rest.now }
+view_step s = record {
+  place = s.place;
+  assigned = option_to_list (option_map view_assignment s.assignment);
+  rest = s.rest.now;
+}
 
 abbrev pub step_view : Option code_step.Step → Option Step
 step_view o = option_map view_step o

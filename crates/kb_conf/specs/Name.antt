@@ -1,5 +1,5 @@
 -- What an assignment or a variable is called: NAME or NAME[N].
-use Rattle.std.specs.Prelude.{ℕ, ◌+◌, ◌/◌, ◌%◌, Bool, true, false, not, ◌&&◌, List, [], ◌∷◌, ◌++◌, Option, Some, None, nat_lt, if◌then◌else◌}
+use Rattle.std.specs.Prelude.{ℕ, ◌+◌, ◌/◌, ◌%◌, Bool, true, false, ◌&&◌, List, [], ◌∷◌, ◌++◌, Option, Some, None, nat_lt, if◌then◌else◌}
 use Rattle.std.specs.List.{list_all}
 use Rattle.kb_conf.specs.declared.bytes.TheConstants.{ZERO, OPEN_BRACKET, CLOSE_BRACKET}
 use Rattle.kb_conf.specs.Bytes.{starts_name, continues_name}
@@ -11,7 +11,10 @@ is_name (b ∷ bs) = starts_name b && list_all continues_name bs
 
 -- a number below 1000 in decimal digits, without leading zeros
 unfoldable pub decimal : ℕ → List ℕ
-decimal n = if nat_lt n 10 then (ZERO + n) ∷ [] else if nat_lt n 100 then (ZERO + n / 10) ∷ (ZERO + n % 10) ∷ [] else (ZERO + n / 100) ∷ (ZERO + n / 10 % 10) ∷ (ZERO + n % 10) ∷ []
+decimal n =
+    if nat_lt n 10 then (ZERO + n) ∷ []
+    else if nat_lt n 100 then (ZERO + n / 10) ∷ (ZERO + n % 10) ∷ []
+    else (ZERO + n / 100) ∷ (ZERO + n / 10 % 10) ∷ (ZERO + n % 10) ∷ []
 
 pub record Reference : Type 0 where
   pub name : List ℕ

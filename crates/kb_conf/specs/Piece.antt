@@ -1,7 +1,8 @@
--- The pieces of a value, after dkms(8) and the shell that reads the file there: how each is spelled, and where it may stand.
-use Rattle.std.specs.Prelude.{◌≡◌, ℕ, ◌+◌, ◌-◌, Bool, true, false, not, ◌&&◌, ◌||◌, List, [], ◌∷◌, ◌++◌, Option, Some, None, ◌==◌, IsTrue, if◌then◌else◌, nat_lt}
+-- The pieces of a value, after dkms(8) and the shell that reads the file there: how each is spelled,
+-- and where it may stand.
+use Rattle.std.specs.Prelude.{ℕ, ◌+◌, ◌-◌, Bool, true, not, ◌&&◌, List, [], ◌∷◌, ◌++◌, ◌==◌, if◌then◌else◌}
 use Rattle.std.specs.List.{list_all}
-use Rattle.kb_conf.specs.declared.bytes.TheConstants.{LINE_FEED, QUOTE, DOLLAR, APOSTROPHE, OPEN_PARENTHESIS, CLOSE_PARENTHESIS, BACKSLASH, BACKQUOTE, OPEN_BRACE, CLOSE_BRACE}
+use Rattle.kb_conf.specs.declared.bytes.TheConstants.{QUOTE, DOLLAR, APOSTROPHE, OPEN_PARENTHESIS, CLOSE_PARENTHESIS, BACKSLASH, BACKQUOTE, OPEN_BRACE, CLOSE_BRACE}
 use Rattle.kb_conf.specs.Bytes.{stands_for_itself, continues_name, begins_expansion}
 use Rattle.kb_conf.specs.Name.{Reference, is_name, is_reference, spell_reference}
 
@@ -42,12 +43,16 @@ lacks b text = list_all (λ c. not (c == b)) text
 
 -- how many parentheses are open behind a byte
 abbrev pub depth_after : ℕ → ℕ → ℕ
-depth_after depth b = if b == OPEN_PARENTHESIS then depth + 1 else if b == CLOSE_PARENTHESIS then depth - 1 else depth
+depth_after depth b =
+    if b == OPEN_PARENTHESIS then depth + 1
+    else if b == CLOSE_PARENTHESIS then depth - 1
+    else depth
 
 -- with so many parentheses open, the text closes them all and each that it opens, and no other
 abbrev pub closes : ℕ → List ℕ → Bool
 closes depth [] = depth == 0
-closes depth (b ∷ bs) = not (b == CLOSE_PARENTHESIS && depth == 0) && closes (depth_after depth b) bs
+closes depth (b ∷ bs) =
+    not (b == CLOSE_PARENTHESIS && depth == 0) && closes (depth_after depth b) bs
 
 -- a name behind $ is as long as the text allows
 abbrev pub ends_name : List ℕ → Bool

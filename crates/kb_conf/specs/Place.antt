@@ -1,5 +1,6 @@
--- Where in a line an item may stand. A line is a list of assignments, separated by blanks or by a ; with or without
--- blanks round it, and then perhaps a ; and perhaps a comment at the line's start or behind a blank.
+-- Where in a line an item may stand. A line is a list of assignments, separated by blanks or by a ;
+-- with or without blanks round it, and then perhaps a ; and perhaps a comment at the line's start or
+-- behind a blank.
 use Rattle.std.specs.Prelude.{Bool, true, false}
 use Rattle.kb_conf.specs.declared.place.Last.{Last}
 use Rattle.kb_conf.specs.declared.place.Last.TheVariants.{Nothing, Assignment, Separator, Closing}

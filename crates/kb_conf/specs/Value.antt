@@ -1,5 +1,5 @@
 -- What the pieces of a value give.
-use Rattle.std.specs.Prelude.{◌≡◌, IsTrue, ℕ, Bool, true, not, ◌&&◌, ◌||◌, List, [], ◌∷◌, ◌++◌, Option, Some, None, unwrap_or, ◌==◌, if◌then◌else◌, nat_le, length}
+use Rattle.std.specs.Prelude.{◌≡◌, IsTrue, ℕ, Bool, true, false, not, ◌&&◌, ◌||◌, List, [], ◌∷◌, ◌++◌, Option, None, unwrap_or, ◌==◌, if◌then◌else◌, nat_le, length}
 use Rattle.std.specs.Option.{option_or}
 use Rattle.kb_conf.specs.declared.bytes.TheConstants.{LINE_FEED, DOLLAR, BACKSLASH, SEMICOLON}
 use Rattle.kb_conf.specs.declared.value.TheConstants.{LONGEST_VALUE}
@@ -13,9 +13,17 @@ pub record Scope : Type 0 where
   pub given : Given
   pub earlier : List Assignment
 
+abbrev pub scope : Given → List Assignment → Scope
+scope g earlier = record { given = g; earlier = earlier }
+
+-- a value begins outside double quotes
+abbrev pub at_start : Bool → Mode
+at_start command = record { quoted = false; command = command }
+
 -- a given field, else the last earlier assignment
 abbrev pub look_up : Scope → Reference → Option (List ℕ)
-look_up s r = option_or (given_value s.given r.name (unwrap_or r.number 0)) (last_value s.earlier r.name (unwrap_or r.number 0))
+look_up s r = option_or (given_value s.given r.name (unwrap_or r.number 0))
+    (last_value s.earlier r.name (unwrap_or r.number 0))
 
 -- where neither gives a value: the piece as written in MAKE and CLEAN, and else nothing
 abbrev pub expand : Scope → Mode → Reference → List ℕ → List ℕ
@@ -23,7 +31,10 @@ expand s m r written = unwrap_or (look_up s r) (if m.command then written else [
 
 -- a backslash takes a line break away. Inside double quotes it stays before a byte that means nothing there
 abbrev pub escape : Bool → ℕ → List ℕ
-escape quoted b = if b == LINE_FEED then [] else if quoted && not (is_active b) then BACKSLASH ∷ b ∷ [] else b ∷ []
+escape quoted b =
+    if b == LINE_FEED then []
+    else if quoted && not (is_active b) then BACKSLASH ∷ b ∷ []
+    else b ∷ []
 
 abbrev pub gives : Scope → Mode → Piece → List ℕ
 gives s m (Bare b) = b ∷ []
@@ -52,7 +63,8 @@ ends_item (b ∷ bs) = is_blank b || b == SEMICOLON || b == LINE_FEED
 -- each piece may stand where it stands, and the value ends outside double quotes
 abbrev pub are_value : Mode → List Piece → List ℕ → Bool
 are_value m [] after = not m.quoted && ends_item after
-are_value m (p ∷ ps) after = fits m p (spell_pieces ps ++ after) && are_value (mode_after m p) ps after
+are_value m (p ∷ ps) after =
+    fits m p (spell_pieces ps ++ after) && are_value (mode_after m p) ps after
 
 -- at most 65,536 bytes
 abbrev pub is_short : List ℕ → Bool

@@ -1,5 +1,5 @@
 -- The reader's values, seen without where they lie in memory.
-use Rattle.std.specs.Prelude.{ℕ, List, Option, Some, None, option_map, Vec}
+use Rattle.std.specs.Prelude.{ℕ, List, Option, option_map, Vec}
 use Rattle.std.specs.declared.alloc.Global.{Global}
 use Rattle.std.specs.Borrow.{Bor}
 use Rattle.kb_conf.specs.Name.{Reference}

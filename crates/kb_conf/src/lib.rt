@@ -14,7 +14,7 @@ mod table;
 mod value;
 
 pub use given::Given;
-pub use laws::one_meaning;
+pub use laws::{assigns_text, one_meaning};
 pub use reading::{ReadError, read_text, without_returns};
 pub use table::{Assignment, Table};
 

@@ -2,8 +2,9 @@
 ghost use Rattle.std.specs.Prelude.{◌≡◌, IfOk, IfSome};
 ghost use Rattle.kb_conf.specs.GivenView.{view_given};
 ghost use Rattle.kb_conf.specs.Front.{plain_at};
-ghost use Rattle.kb_conf.specs.Line.{is_command, scope, AssignmentAt, IsStep};
+ghost use Rattle.kb_conf.specs.Line.{is_command, AssignmentAt, IsStep};
 ghost use Rattle.kb_conf.specs.Only.{IsOnly};
+ghost use Rattle.kb_conf.specs.Value.{scope};
 ghost use Rattle.kb_conf.specs.LineViews.{assignment_view, step_view, plain_view};
 
 use super::bytes::{EQUALS, HASH, LINE_FEED, SEMICOLON, is_blank};
@@ -29,7 +30,9 @@ fn read_assignment<'a>(
     earlier: &Table<'a>,
     text: &'a [u8],
 ) -> Result<Option<(Assignment<'a>, &'a [u8])>, AllocError>
-    ensures { IfOk result (λ found. IsOnly (AssignmentAt (scope (view_given given.now) earlier.now) text.now) (assignment_view found)) }
+    ensures { IfOk result (λ found.
+        IsOnly (AssignmentAt (scope (view_given given.now) earlier.now) text.now)
+        (assignment_view found)) }
 {
     let Some((reference, rest)) = split_reference(text) else {
         return Ok(None);
@@ -86,7 +89,9 @@ pub fn read_step<'a>(
     place: Place,
     text: &'a [u8],
 ) -> Result<Option<Step<'a>>, AllocError>
-    ensures { IfOk result (λ found. IsOnly (IsStep (scope (view_given given.now) earlier.now) place text.now) (step_view found)) }
+    ensures { IfOk result (λ found.
+        IsOnly (IsStep (scope (view_given given.now) earlier.now) place text.now)
+        (step_view found)) }
 {
     if let Some((place, rest)) = split_plain(place, text) {
         return Ok(Some(Step {

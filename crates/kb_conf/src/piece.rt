@@ -122,7 +122,8 @@ impl Mode {
 
 /// The piece at the front, how it is written, and what follows it.
 pub fn next_piece(mode: Mode, text: &[u8]) -> Option<(Piece<'_>, &[u8], &[u8])>
-    ensures { MatchOption result (piece_at (mode_view mode) text.now ≡ None) (λ f. IsNextPiece (mode_view mode) text.now (view_piece f.0) f.1.now f.2.now) }
+    ensures { MatchOption result (piece_at (mode_view mode) text.now ≡ None) (λ f.
+        IsNextPiece (mode_view mode) text.now (view_piece f.0) f.1.now f.2.now) }
 {
     let (piece, rest) = split_piece(mode, text)?;
     let (written, _) = text.split_at(text.len() - rest.len());

@@ -75,7 +75,8 @@ impl<'a> Table<'a> {
 
     /// Adds the assignment, if there is one.
     pub fn with_any(self, assignment: Option<Assignment<'a>>) -> Result<Self, AllocError>
-        ensures { IfOk result (λ t. t ≡ self.entry ++ option_to_list (option_map view_assignment assignment.entry)) }
+        ensures { IfOk result (λ t.
+            t ≡ self.entry ++ option_to_list (option_map view_assignment assignment.entry)) }
     {
         match assignment {
             Some(assignment) => self.with(assignment),

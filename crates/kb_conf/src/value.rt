@@ -1,9 +1,9 @@
 //! Values of assignments.
-ghost use Rattle.std.specs.Prelude.{◌≡◌, IfOk, false};
+ghost use Rattle.std.specs.Prelude.{◌≡◌, IfOk};
 ghost use Rattle.kb_conf.specs.Only.{IsOnly};
 ghost use Rattle.kb_conf.specs.GivenView.{view_given};
 ghost use Rattle.kb_conf.specs.Piece.{spell};
-ghost use Rattle.kb_conf.specs.Value.{look_up, expand, gives, ends_item, IsShortValue};
+ghost use Rattle.kb_conf.specs.Value.{scope, at_start, look_up, expand, gives, ends_item, IsShortValue};
 ghost use Rattle.kb_conf.specs.Views.{rest_view, view_reference, view_piece, mode_view, value_view};
 
 use super::bytes::{LINE_FEED, SEMICOLON, is_active, is_blank};
@@ -22,7 +22,8 @@ fn look_up<'x>(
     earlier: &'x Table<'_>,
     reference: Reference<'_>,
 ) -> Option<&'x [u8]>
-    ensures { rest_view result ≡ look_up (record { given = view_given given.now; earlier = earlier.now }) (view_reference reference.entry) }
+    ensures { rest_view result
+        ≡ look_up (scope (view_given given.now) earlier.now) (view_reference reference.entry) }
 {
     let number = reference.number.unwrap_or(0);
     match given.value(reference.name, number) {
@@ -39,7 +40,8 @@ fn expand<'x>(
     reference: Reference<'_>,
     written: &'x [u8],
 ) -> &'x [u8]
-    ensures { result.now ≡ expand (record { given = view_given given.now; earlier = earlier.now }) (mode_view mode) (view_reference reference.entry) written.now }
+    ensures { result.now ≡ expand (scope (view_given given.now) earlier.now) (mode_view mode)
+        (view_reference reference.entry) written.now }
 {
     match look_up(given, earlier, reference) {
         Some(value) => value,
@@ -57,7 +59,8 @@ fn given_by<'x>(
     written: &'x [u8],
 ) -> &'x [u8]
     requires { written.now ≡ spell (view_piece piece) }
-    ensures { result.now ≡ gives (record { given = view_given given.now; earlier = earlier.now }) (mode_view mode) (view_piece piece.entry) }
+    ensures { result.now
+        ≡ gives (scope (view_given given.now) earlier.now) (mode_view mode) (view_piece piece.entry) }
 {
     match piece {
         Piece::Bare(_) | Piece::Dollar | Piece::Command(_) | Piece::Backquoted(_) => written,
@@ -95,7 +98,9 @@ pub fn read_value<'a>(
     command: bool,
     text: &'a [u8],
 ) -> Result<Option<(Vec<u8>, &'a [u8])>, AllocError>
-    ensures { IfOk result (λ found. IsOnly (IsShortValue (record { given = view_given given.now; earlier = earlier.now }) (record { quoted = false; command = command }) text.now) (value_view found)) }
+    ensures { IfOk result (λ found.
+        IsOnly (IsShortValue (scope (view_given given.now) earlier.now) (at_start command) text.now)
+        (value_view found)) }
 {
     let mut value = Vec::new(alloc);
     let mut mode = Mode {

@@ -1,9 +1,9 @@
-use Rattle.std.proofs.Common.{◌≡◌, Bool, false, List, ℕ, Option, None, Some, Vec, Global, sym, ap, subst}
+use Rattle.std.proofs.Common.{◌≡◌, Bool, false, List, ℕ, Option, Some, Vec, Global, sym, ap, subst}
 use Rattle.std.specs.Borrow.{Bor}
 use Rattle.kb_conf.specs.Assignment.{Assignment}
 use Rattle.kb_conf.specs.GivenView.{view_given}
-use Rattle.kb_conf.specs.Line.{scope, AssignmentAt}
-use Rattle.kb_conf.specs.Name.{Reference}
+use Rattle.kb_conf.specs.Line.{AssignmentAt}
+use Rattle.kb_conf.specs.Value.{scope}
 use Rattle.kb_conf.specs.Only.{IsOnly}
 use Rattle.kb_conf.specs.Value.{Scope, IsShortValue}
 use Rattle.kb_conf.specs.Views.{view_reference, value_view}

@@ -1,8 +1,9 @@
-use Rattle.std.proofs.Common.{◌≡◌, List, ℕ, Option, sym, ◌∙◌, subst}
+use Rattle.std.proofs.Common.{List, ℕ, Option, sym, ◌∙◌, subst}
 use Rattle.std.specs.Borrow.{Bor}
 use Rattle.std.proofs.lemmas.Bool.{false≢true}
 use Rattle.kb_conf.specs.GivenView.{view_given}
-use Rattle.kb_conf.specs.Line.{scope, AssignmentAt}
+use Rattle.kb_conf.specs.Line.{AssignmentAt}
+use Rattle.kb_conf.specs.Value.{scope}
 use Rattle.kb_conf.specs.LineViews.{assignment_view}
 use Rattle.kb_conf.specs.Only.{IsOnly}
 use Rattle.kb_conf.specs.Table.{view_assignment}

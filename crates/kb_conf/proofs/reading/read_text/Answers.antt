@@ -1,7 +1,8 @@
-use Rattle.std.proofs.Common.{◌≡◌, List, Option, sym, ap, ◌∙◌, subst, arith}
+use Rattle.std.proofs.Common.{List, Option, sym, subst, arith}
 use Rattle.kb_conf.specs.Assignment.{Assignment, Given}
 use Rattle.kb_conf.specs.GivenView.{view_given}
-use Rattle.kb_conf.specs.Line.{scope, IsStep}
+use Rattle.kb_conf.specs.Line.{IsStep}
+use Rattle.kb_conf.specs.Value.{scope}
 use Rattle.kb_conf.specs.LineViews.{view_step, step_view}
 use Rattle.kb_conf.specs.Only.{IsOnly}
 use Rattle.kb_conf.specs.declared.line.Step as code

@@ -1,5 +1,5 @@
 -- What is found in the whole text is what is found in the rest, with the bytes so far before it.
-use Rattle.std.proofs.Common.{◌≡◌, ◌≤◌, ◌++◌, take, drop, Option}
+use Rattle.std.proofs.Common.{◌≡◌, ◌≤◌, ◌++◌, take, drop}
 use Rattle.std.specs.Prelude.{option_map, ℕ, List}
 use Rattle.kb_conf.specs.Front.{closing_at}
 use Rattle.kb_conf.proofs.spans.split_closing.Given as goal

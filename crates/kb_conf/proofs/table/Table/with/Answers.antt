@@ -1,4 +1,4 @@
-use Rattle.std.proofs.Common.{◌≡◌, List, length, sym, ap, ◌∙◌, subst, arith, cond, Some, Option, ℕ}
+use Rattle.std.proofs.Common.{◌≡◌, List, length, sym, ap, ◌∙◌, subst, arith, cond, Some, ℕ}
 use Rattle.kb_conf.specs.Assignment.{is_of}
 use Rattle.kb_conf.specs.Table.{view_assignment, place_of, PointsAtLast}
 use Rattle.kb_conf.specs.declared.table.Assignment as code
