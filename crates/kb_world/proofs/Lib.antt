@@ -1,3 +1,4 @@
+pub mod AddLaws
 pub mod DoesLaws
 pub mod NameLaws
 pub mod PathLaws

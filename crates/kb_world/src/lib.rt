@@ -4,6 +4,7 @@
 #![tactic(auto)]
 
 mod job;
+mod laws;
 mod names;
 mod path;
 mod refusal;
@@ -17,6 +18,7 @@ mod tree;
 mod world;
 
 pub use job::{Filter, HookKind, Host, Job, Key, Report, Spot, SpotList, Spots, TokenChoice};
+pub use laws::add_adds_one_package;
 pub use names::{is_arch, is_boot_word, is_kernel, is_name, is_version, is_word};
 pub use path::{Path, PathError, text_tells_path};
 pub use refusal::{Refusal, bad_boot_line, bad_root_line, fault_line, message, no_memory_line};

@@ -1,0 +1,97 @@
+-- What the step Add does to a store.
+use Rattle.std.proofs.Common.{◌≡◌, ◌≢◌, ℕ, ◌+◌, Bool, true, false, cond, ◌&&◌, ◌||◌, List, [], ◌∷◌, ◌++◌, length, Option, Some, None, is_some, refl, sym, ap, ◌∙◌, subst, arith, length-append}
+use Rattle.std.specs.Prelude.{bytes_eq, codes}
+use Rattle.std.specs.Option.{option_or}
+use Rattle.std.specs.Cmp.{first_so, second_so}
+use Rattle.std.specs.Cmp.Derive.{both_true}
+use Rattle.std.specs.Cmp.Lexicographic.{bytes_decides}
+use Rattle.kb_world.specs.Path.{Path, child, path_text}
+use Rattle.kb_world.specs.Tree.{Tree, node_at, with_node, is_dir, link_text}
+use Rattle.kb_world.specs.TreeLaws.{same_path, same_path-true, same_path-refl, with_node-here, with_node-apart}
+use Rattle.kb_world.specs.Store.{is_added, same_key, says, module_path, version_path, link_path, source_text}
+use Rattle.kb_world.specs.Steps.{with_directory, blocking, add_step, add_blocked}
+use Rattle.kb_world.specs.declared.roots.Roots.{Roots}
+use Rattle.kb_world.specs.declared.job.Key.{Key}
+use Rattle.kb_world.specs.declared.tree.Node.TheVariants as node
+use Rattle.kb_world.proofs.StepLaws.{child-other, grandchild-other, directory-here, directory-apart, blocking-same}
+use Rattle.kb_world.proofs.PathLaws.{by_test}
+
+-- the last names of two paths that are one
+last_same : (a b : Path) (m n : List ℕ) → a ++ m ∷ [] ≡ b ++ n ∷ [] → (a ≡ b) × (m ≡ n)
+last_same [] [] m n e = (refl, cc)
+last_same [] (y ∷ b) m n e = absurd (omega (arith, ap length e, length-append b (n ∷ [])))
+last_same (x ∷ a) [] m n e = absurd (omega (arith, ap length e, length-append a (m ∷ [])))
+last_same (x ∷ a) (y ∷ b) m n e =
+    let tails : a ++ m ∷ [] ≡ b ++ n ∷ [] = cc in
+    let heads : x ≡ y = cc in
+    let below = last_same a b m n tails in
+    ((λ i. heads i ∷ below.0 i), below.1)
+
+-- two packages with one link are one
+one_link : (roots : Roots) (a b : Key) → link_path roots a ≡ link_path roots b → (a.module ≡ b.module) × (a.version ≡ b.version)
+one_link roots a b e =
+    let versions = last_same (version_path roots a) (version_path roots b) (codes "source") (codes "source") e in
+    let modules = last_same (module_path roots a) (module_path roots b) a.version b.version versions.0 in
+    let roots_same = last_same roots.dkms roots.dkms a.module b.module modules.0 in
+    (roots_same.1, modules.1)
+
+pub elsewhere : (roots : Roots) (key : Key) (store : Tree) (path : Path) → path ≢ module_path roots key → path ≢ version_path roots key → path ≢ link_path roots key
+    → node_at (add_step roots key store) path ≡ node_at store path
+unfolding add_step
+elsewhere roots key store path no_module no_version no_link =
+    with_node-apart (with_directory (version_path roots key) (with_directory (module_path roots key) store)) (link_path roots key) (node.Link (source_text roots key)) path no_link
+    ∙ directory-apart (version_path roots key) (with_directory (module_path roots key) store) path no_version ∙ directory-apart (module_path roots key) store path no_module
+
+here : (roots : Roots) (key : Key) (store : Tree) → node_at (add_step roots key store) (link_path roots key) ≡ Some (node.Link (source_text roots key))
+unfolding add_step
+here roots key store = with_node-here (with_directory (version_path roots key) (with_directory (module_path roots key) store)) (link_path roots key) (node.Link (source_text roots key))
+
+-- a link is no directory above another package's link
+longer : (roots : Roots) (a b : Key) → length (link_path roots a) ≡ length roots.dkms + 3
+longer roots a b =
+    omega (arith, length-append (version_path roots a) (codes "source" ∷ []), length-append (module_path roots a) (a.version ∷ []), length-append roots.dkms (a.module ∷ []))
+
+pub directories : (roots : Roots) (key : Key) (store : Tree) → add_blocked roots key store ≡ None → is_dir (node_at (add_step roots key store) (version_path roots key)) ≡ true
+unfolding add_step
+directories roots key store free =
+    let below : version_path roots key ≢ link_path roots key = λ same. child-other (version_path roots key) (codes "source") (sym same) in
+    let above : version_path roots key ≢ module_path roots key = λ same. child-other (module_path roots key) key.version same in
+    let once = with_directory (module_path roots key) store in
+    let open_to = blocking-same (version_path roots key) once store (directory-apart (module_path roots key) store (version_path roots key) above) ∙ second_free (blocking (module_path roots key) store) _ free in
+    ap is_dir (with_node-apart (with_directory (version_path roots key) once) (link_path roots key) (node.Link (source_text roots key)) (version_path roots key) below)
+    ∙ directory-here (version_path roots key) once open_to
+  where
+    second_free : (a b : Option Path) → option_or a b ≡ None → b ≡ None
+    second_free None b e = e
+    second_free (Some x) b e = let impossible : Some x ≡ None = e in cc
+
+same_text : (text : List ℕ) → bytes_eq text text ≡ true
+same_text text = (bytes_decides text text).1 refl
+
+pub added : (roots : Roots) (key other : Key) (store : Tree) → is_added roots other (add_step roots key store) ≡ (same_key other key || is_added roots other store)
+added roots key other store = by_path (same_path (link_path roots other) (link_path roots key)) refl
+  where
+    apart_paths : same_path (link_path roots other) (link_path roots key) ≡ false → link_path roots other ≡ link_path roots key → ⊥
+    apart_paths e same = let impossible : true ≡ false = sym (same_path-refl (link_path roots key)) ∙ sym (ap (λ p. same_path p (link_path roots key)) same) ∙ e in cc
+
+    not_named : same_path (link_path roots other) (link_path roots key) ≡ false → same_key other key ≡ false
+    not_named e = by_test (same_key other key) (λ named.
+        let modules = (bytes_decides other.module key.module).0 (first_so (bytes_eq other.module key.module) (bytes_eq other.version key.version) named) in
+        let versions = (bytes_decides other.version key.version).0 (second_so (bytes_eq other.module key.module) (bytes_eq other.version key.version) named) in
+        apart_paths e (λ i. child (child (child roots.dkms (modules i)) (versions i)) (codes "source")))
+
+    by_path : (same : Bool) → same_path (link_path roots other) (link_path roots key) ≡ same
+        → is_added roots other (add_step roots key store) ≡ (same_key other key || is_added roots other store)
+    by_path true e =
+        let one = one_link roots other key (same_path-true (link_path roots other) (link_path roots key) e) in
+        let keys : other ≡ key = λ i. record { «module» = one.0 i; version = one.1 i } in
+        let named : same_key other key ≡ true = both_true ((bytes_decides other.module key.module).1 one.0) ((bytes_decides other.version key.version).1 one.1) in
+        let stands : is_added roots key (add_step roots key store) ≡ true = ap (λ at. says (source_text roots key) (link_text at)) (here roots key store) ∙ same_text (source_text roots key) in
+        subst (λ k. is_added roots k (add_step roots key store) ≡ true) (sym keys) stands ∙ sym (ap (λ b. b || is_added roots other store) named)
+    by_path false e =
+        let other_link : link_path roots other ≢ link_path roots key = λ same. apart_paths e same in
+        let no_module : link_path roots other ≢ module_path roots key = λ same. absurd (omega (arith, longer roots other key, ap length same, length-append roots.dkms (key.module ∷ []))) in
+        let no_version : link_path roots other ≢ version_path roots key = λ same.
+        absurd (omega (arith, longer roots other key, ap length same, length-append (module_path roots key) (key.version ∷ []), length-append roots.dkms (key.module ∷ []))) in
+        let stays = elsewhere roots key store (link_path roots other) no_module no_version other_link in
+        ap (λ at. says (source_text roots other) (link_text at)) stays ∙ sym (ap (λ b. b || is_added roots other store) (not_named e))
