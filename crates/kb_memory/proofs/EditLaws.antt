@@ -1,5 +1,5 @@
 -- Edits keep a tree formed.
-use Rattle.std.proofs.Common.{◌≡◌, ◌≢◌, ◌-◌, [], ◌∷◌, length, take, Bool, true, false, cond, Option, Some, None, is_some, Result, Ok, Err, OnOk, OnErr, IsTrue, refl, sym, ap, subst, ◌∙◌, arith, length-take}
+use Rattle.std.proofs.Common.{◌≡◌, [], ◌∷◌, length, Bool, true, false, cond, Option, Some, None, is_some, Result, Ok, Err, OnOk, OnErr, IsTrue, refl, sym, ap, subst, ◌∙◌, arith, length-take}
 use Rattle.std.specs.FinMap.{empty}
 use Rattle.kb_world.specs.Path.{Path, parent}
 use Rattle.kb_world.specs.Tree.{Tree, node_at, is_dir, IsFormed, CanMake}

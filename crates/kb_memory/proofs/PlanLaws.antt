@@ -1,7 +1,7 @@
 -- What a plan says of steadiness and of the count of faults.
-use Rattle.std.proofs.Common.{◌≡◌, ◌+◌, ◌-◌, ◌^◌, ◌≤◌, ◌==◌, ℕ, min, [], ◌∷◌, Bool, true, false, IsTrue, IsErrOf, Result, Ok, Err, OnOk, OnErr, Option, Some, None, List, append-nil, refl, sym, ap, subst, ◌∙◌, arith, rules}
+use Rattle.std.proofs.Common.{◌≡◌, ◌+◌, ◌-◌, ◌^◌, ◌≤◌, ℕ, min, [], ◌∷◌, Bool, true, false, IsTrue, IsErrOf, Result, Ok, Err, OnOk, OnErr, Option, Some, None, List, append-nil, refl, sym, ap, ◌∙◌, arith}
 use Rattle.std.proofs.lemmas.Grind.{common_steps}
-use Rattle.kb_world.specs.State.{State, Rose, HasCause, Looks}
+use Rattle.kb_world.specs.State.{State, Rose, Looks}
 use Rattle.kb_world.specs.SinkState.{SinkState, Writes, grown}
 use Rattle.kb_world.specs.declared.sink.SinkError.{SinkError}
 use Rattle.kb_world.specs.declared.sink.SinkError.TheVariants as sink_error

@@ -1,5 +1,5 @@
 -- Planned failures of calls. This project's own.
-use Rattle.std.specs.Prelude.{◌≡◌, ℕ, ◌+◌, ◌-◌, ◌^◌, ◌==◌, min, Bool, List, map, if◌then◌else◌}
+use Rattle.std.specs.Prelude.{ℕ, ◌+◌, ◌-◌, ◌^◌, ◌==◌, min, Bool, List, map, if◌then◌else◌}
 use Rattle.std.specs.List.{list_any, list_all}
 
 -- The numbers of the calls that are to fail, counted from 1 from the next call on. A 0 is a call that is over.

@@ -1,5 +1,5 @@
 -- What a world in memory means. This project's own.
-use Rattle.std.specs.Prelude.{◌≡◌, ◌↔◌, ℕ, [], true, Option, Some, Result, IsErrOf, IsTrue, unwrap_or}
+use Rattle.std.specs.Prelude.{◌≡◌, ◌↔◌, true, Some, Result, IsErrOf, IsTrue, unwrap_or}
 use Rattle.std.specs.Option.{ForSome}
 use Rattle.std.proofs.Common.{ap, subst}
 use Rattle.kb_world.specs.Tree.{Tree, IsFormed}

@@ -1,4 +1,4 @@
-use Rattle.std.proofs.Common.{◌≡◌, [], Some, refl, sym, ap, ◌∙◌}
+use Rattle.std.proofs.Common.{Some, refl, sym, ap, ◌∙◌}
 use Rattle.kb_memory.specs.Plan.{is_over, risen}
 use Rattle.kb_memory.proofs.PlanLaws.{writes}
 use Rattle.kb_memory.proofs.sink.MemorySinkSink.write.Goals as goal

@@ -1,4 +1,4 @@
-use Rattle.std.proofs.Common.{◌≡◌, Ok, Err, refl, sym, ap, ◌∙◌}
+use Rattle.std.proofs.Common.{refl, sym, ap, ◌∙◌}
 use Rattle.kb_memory.specs.Plan.{is_over, risen}
 use Rattle.kb_memory.proofs.PlanLaws.{looks}
 use Rattle.kb_memory.proofs.world.MemoryWorld.begin.Goals as goal
