@@ -1,24 +1,22 @@
 -- What the refusals and the step of `dkms add` read and change is public.
-use Rattle.std.proofs.Common.{◌≡◌, ◌≢◌, ℕ, Bool, true, false, cond, ◌&&◌, List, [], ◌∷◌, ◌++◌, Option, Some, None, is_some, refl, sym, ap, ◌∙◌, subst, append_assoc}
+use Rattle.std.proofs.Common.{◌≡◌, ℕ, Bool, true, false, cond, ◌&&◌, List, [], ◌∷◌, ◌++◌, is_some, refl, sym, ap, ◌∙◌, subst, append_assoc}
 use Rattle.std.specs.Prelude.{codes}
-use Rattle.std.specs.Cmp.{first_so, second_so}
+use Rattle.std.specs.Cmp.{first_so}
 use Rattle.kb_world.specs.Names.{is_word, is_version, begins_alphanumeric}
-use Rattle.kb_world.specs.Path.{Path, child, parent}
-use Rattle.kb_world.specs.Tree.{Tree, node_at, with_node, is_dir}
+use Rattle.kb_world.specs.Path.{Path}
+use Rattle.kb_world.specs.Tree.{Tree, node_at, with_node}
 use Rattle.kb_world.specs.Roots.{AreApart}
 use Rattle.kb_world.specs.Public.{public_tree, foreign_tree}
-use Rattle.kb_world.specs.Store.{is_key, module_path, version_path, link_path, source_path, conf_path, source_text}
-use Rattle.kb_world.specs.Steps.{with_directory, blocking, add_step}
+use Rattle.kb_world.specs.Store.{is_key}
+use Rattle.kb_world.specs.Steps.{with_directory, add_step}
 use Rattle.kb_world.specs.declared.roots.Roots.{Roots}
 use Rattle.kb_world.specs.declared.job.Key.{Key}
-use Rattle.kb_world.specs.declared.refusal.Refusal.{Refusal}
-use Rattle.kb_world.specs.declared.tree.Node.{Node}
 use Rattle.kb_world.specs.declared.tree.Node.TheVariants as node
 use Rattle.kb_world.proofs.NameLaws.{known, begins-append}
 use Rattle.kb_world.proofs.PublicLaws.{IsAlwaysPublic, in_dkms, in_src, shown, public_tree-with_node, foreign_tree-with_node}
 use Rattle.kb_top.specs.declared.add.Places.{Places}
 use Rattle.kb_top.specs.Add.{add_refusal}
-use Rattle.kb_top.specs.Places.{places_of, place_refusal, place_step, IsNested, CanPlace}
+use Rattle.kb_top.specs.Places.{places_of, place_refusal, place_step}
 
 -- each place of a package is public, whatever stands there
 pub record ArePublic (roots : Roots) (places : Places) : Type 0 where

@@ -1,29 +1,26 @@
 -- `dkms add` does what its definition says.
-use Rattle.std.proofs.Common.{◌≡◌, true, List, ℕ, ◌++◌, Option, Some, None, is_some, cond, refl, sym, ap, ◌∙◌, subst}
-use Rattle.std.specs.Prelude.{IsErrOf, IsTrue, Result, Ok, Err, option_map, codes}
-use Rattle.std.specs.Option.{option_or, ForSome}
-use Rattle.kb_world.specs.Path.{Path, parent}
+use Rattle.std.proofs.Common.{◌≡◌, true, List, ℕ, ◌++◌, Option, Some, None, is_some, cond, refl, sym, ap, ◌∙◌}
+use Rattle.std.specs.Prelude.{Result, Ok, Err, option_map, codes}
+use Rattle.std.specs.Option.{option_or}
+use Rattle.kb_world.specs.Path.{Path}
 use Rattle.kb_world.specs.Tree.{Tree, node_at, is_dir, link_text}
 use Rattle.kb_world.specs.Roots.{AreApart}
-use Rattle.kb_world.specs.State.{State, HasCause}
+use Rattle.kb_world.specs.State.{State}
 use Rattle.kb_world.specs.Store.{is_key, says}
 use Rattle.kb_world.specs.Steps.{add_step, blocking}
 use Rattle.kb_world.specs.Public.{public_tree, foreign_tree}
-use Rattle.kb_world.specs.Outcome.{Action, transaction}
-use Rattle.kb_world.specs.Does.{Does, Decides, Transforms, Answers, Agrees}
+use Rattle.kb_world.specs.Outcome.{transaction}
+use Rattle.kb_world.specs.Does.{Does, Decides, Transforms}
 use Rattle.kb_world.specs.declared.roots.Roots.{Roots}
 use Rattle.kb_world.specs.declared.job.Key.{Key}
 use Rattle.kb_world.specs.declared.job.Report.{Report}
-use Rattle.kb_world.specs.declared.refusal.Refusal.{Refusal}
 use Rattle.kb_world.specs.declared.refusal.Refusal.TheVariants as refusal
 use Rattle.kb_world.specs.declared.tree.Node.{Node}
 use Rattle.kb_world.specs.declared.stop.Stop.{Stop}
-use Rattle.kb_world.specs.declared.stop.Stop.TheVariants.{Refused, Fault, NoMemory}
 use Rattle.kb_world.proofs.DoesLaws.{does_refused, does_passed, does_transaction}
-use Rattle.kb_world.proofs.Told.{told_before}
 use Rattle.kb_world.proofs.StepLaws.{parent-child}
 use Rattle.kb_top.specs.declared.add.Places.{Places}
-use Rattle.kb_top.specs.Add.{add, add_refusal, added_line, already_added, no_source_directory, no_conf, in_the_way, ◌or◌}
+use Rattle.kb_top.specs.Add.{add, add_refusal, added_line, already_added, no_source_directory, no_conf, in_the_way}
 use Rattle.kb_top.specs.Places.{places_of, place_refusal, place_step, IsNested, CanPlace}
 use Rattle.kb_top.proofs.AddLaws.{refusal_shown, step_shown, step_keeps_foreign}
 

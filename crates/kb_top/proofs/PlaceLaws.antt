@@ -1,8 +1,8 @@
 -- When a version's link can be made.
-use Rattle.std.proofs.Common.{◌≡◌, ◌≢◌, true, List, ℕ, refl, sym, ap, ◌∙◌, subst}
+use Rattle.std.proofs.Common.{◌≡◌, ◌≢◌, true, List, ℕ, sym, ap, ◌∙◌}
 use Rattle.kb_world.specs.Path.{Path, child, parent}
 use Rattle.kb_world.specs.Tree.{Tree, node_at, is_dir, CanMake}
-use Rattle.kb_world.specs.Steps.{with_directory, blocking}
+use Rattle.kb_world.specs.Steps.{with_directory}
 use Rattle.kb_world.proofs.StepLaws.{parent-child, child-other, grandchild-other, directory-here, directory-apart, blocking-same}
 use Rattle.kb_top.specs.declared.add.Places.{Places}
 use Rattle.kb_top.specs.Places.{IsNested, CanPlace}

@@ -1,13 +1,13 @@
 -- The top call is a command and the writing of its report.
-use Rattle.std.proofs.Common.{◌≡◌, ◌⊎◌, ℕ, Bool, true, false, List, [], ◌++◌, take, Option, Some, None, is_some, refl, sym, ap, ◌∙◌, subst, inl, inr, arith}
-use Rattle.std.specs.Prelude.{Result, Ok, Err, IsTrue}
+use Rattle.std.proofs.Common.{◌≡◌, ◌⊎◌, ℕ, List, [], ◌++◌, Option, Some, None, refl, sym, ap, ◌∙◌, subst, inl, arith}
+use Rattle.std.specs.Prelude.{Result, Ok, Err}
 use Rattle.kb_world.specs.Tree.{Tree}
-use Rattle.kb_world.specs.State.{State, Rose}
+use Rattle.kb_world.specs.State.{State}
 use Rattle.kb_world.specs.SinkState.{SinkState}
-use Rattle.kb_world.specs.Public.{public_tree, foreign_tree}
+use Rattle.kb_world.specs.Public.{public_tree}
 use Rattle.kb_world.specs.Refusal.{message_of, fault_line, no_memory_line}
-use Rattle.kb_world.specs.Outcome.{Outcome, last_of}
-use Rattle.kb_world.specs.Does.{Answers, CameAbout, IsTreeOf}
+use Rattle.kb_world.specs.Outcome.{Outcome}
+use Rattle.kb_world.specs.Does.{Answers}
 use Rattle.kb_world.specs.declared.roots.Roots.{Roots}
 use Rattle.kb_world.specs.declared.job.Report.{Report}
 use Rattle.kb_world.specs.declared.refusal.Refusal.{Refusal}
@@ -18,8 +18,8 @@ use Rattle.kb_top.specs.declared.end.End.TheVariants as end
 use Rattle.kb_top.specs.Words.{Word}
 use Rattle.kb_top.specs.Machine.{outcome_of}
 use Rattle.kb_top.specs.Serve.{Serves}
-use Rattle.kb_top.specs.Run.{Outside, Runs, EndsAs, IsAnswered, IsCutShort, IsGivenUp, IsDone, IsFaulted, IsAnswerOrWant, AreSteady, CountsStay, WroteFront, Wrote, WroteNothing, err_text, with_line}
-use Rattle.kb_top.specs.Tell.{Sinks, SinksGoOn, Tells, TellsAs, FinishesAs, WroteBoth, WroteFronts, GaveUp, SinkFailed, SaysFront, with_message}
+use Rattle.kb_top.specs.Run.{Outside, Runs, EndsAs, IsGivenUp, IsDone, IsAnswerOrWant, WroteFront, Wrote, WroteNothing, err_text, with_line}
+use Rattle.kb_top.specs.Tell.{Sinks, Tells, TellsAs, FinishesAs, SinkFailed, SaysFront, with_message}
 use Rattle.kb_top.proofs.Stays.{refused_stays}
 
 -- the end of a command that is due to be refused so, or not

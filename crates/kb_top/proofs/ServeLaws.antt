@@ -1,12 +1,11 @@
 -- What a command needs is public, and what it does is the machine's.
 use Rattle.std.proofs.Common.{◌≡◌, ℕ, ◌+◌, Bool, true, false, cond, ◌&&◌, List, [], ◌++◌, Option, Some, None, is_some, refl, sym, ap, ◌∙◌, subst}
-use Rattle.std.specs.Prelude.{Result, Ok, Err, IsTrue, IsErrOf}
+use Rattle.std.specs.Prelude.{Result, Ok, Err}
 use Rattle.std.proofs.lemmas.List.{append-nil}
 use Rattle.kb_world.specs.Names.{is_word, is_version}
-use Rattle.kb_world.specs.Path.{Path}
 use Rattle.kb_world.specs.Tree.{Tree, node_at}
 use Rattle.kb_world.specs.Roots.{AreApart}
-use Rattle.kb_world.specs.State.{State, HasCause}
+use Rattle.kb_world.specs.State.{State}
 use Rattle.kb_world.specs.Store.{is_key}
 use Rattle.kb_world.specs.Public.{public_tree, foreign_tree, intent_path}
 use Rattle.kb_world.specs.Outcome.{Outcome, refuse_if, print}
@@ -24,7 +23,6 @@ use Rattle.kb_top.specs.declared.words.Command.{Command}
 use Rattle.kb_top.specs.declared.words.Command.TheVariants as command
 use Rattle.kb_top.specs.Words.{Word, bad_name, reading, read_as, checked, command_of, known_words}
 use Rattle.kb_top.specs.Read.{IsRead}
-use Rattle.kb_top.specs.Add.{no_root}
 use Rattle.kb_top.specs.Serve.{Serves}
 use Rattle.kb_top.specs.Machine.{no_roots_of_add, perform, perform_read, machine, standing_intent, by_intent, outcome_of}
 

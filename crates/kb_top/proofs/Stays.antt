@@ -1,5 +1,5 @@
 -- A command that is refused has changed nothing.
-use Rattle.std.proofs.Common.{◌≡◌, ℕ, List, [], Option, Some, None, refl, sym, ap, ◌∙◌, subst}
+use Rattle.std.proofs.Common.{◌≡◌, ℕ, List, [], Option, Some, None, refl, sym, ap, subst}
 use Rattle.std.specs.Prelude.{Result, Ok, Err}
 use Rattle.kb_world.specs.Tree.{Tree}
 use Rattle.kb_world.specs.Public.{public_tree, foreign_tree}
@@ -12,7 +12,7 @@ use Rattle.kb_top.specs.declared.words.Command.{Command}
 use Rattle.kb_top.specs.declared.words.Command.TheVariants as command
 use Rattle.kb_top.specs.Words.{Word, reading}
 use Rattle.kb_top.specs.Add.{add, add_refusal, added_line}
-use Rattle.kb_top.specs.Machine.{no_roots_of_add, perform, perform_read, machine, standing_intent, by_intent, outcome_of}
+use Rattle.kb_top.specs.Machine.{no_roots_of_add, perform, perform_read, standing_intent, by_intent, outcome_of}
 
 -- where it is refused, no transaction was done
 abbrev IsAllOrNothing : Outcome → Type 0

@@ -1,6 +1,6 @@
 -- What writes to the two sinks come to.
-use Rattle.std.proofs.Common.{◌≡◌, ◌⊎◌, ℕ, List, [], ◌++◌, length, take, Option, Some, None, refl, sym, ap, ◌∙◌, subst, inl, inr}
-use Rattle.std.specs.Prelude.{Result, Ok, Err, IsTrue, option_map}
+use Rattle.std.proofs.Common.{◌≡◌, ℕ, List, [], length, Option, Some, None, refl, sym, ap, ◌∙◌, subst, inl, inr}
+use Rattle.std.specs.Prelude.{Result, Ok, Err}
 use Rattle.std.proofs.Math.Seq.{take-length}
 use Rattle.std.proofs.lemmas.List.{append-nil}
 use Rattle.kb_world.specs.SinkState.{SinkState, Writes, grown}
@@ -8,7 +8,7 @@ use Rattle.kb_world.specs.declared.job.Report.{Report}
 use Rattle.kb_world.specs.declared.sink.SinkError.{SinkError}
 use Rattle.kb_world.specs.declared.sink.SinkError.TheVariants.{Failed, NoMemory}
 use Rattle.kb_top.specs.Run.{WroteFront, Wrote, WroteNothing}
-use Rattle.kb_top.specs.Tell.{Sinks, Delivers, DeliversAs, SaysFront}
+use Rattle.kb_top.specs.Tell.{Delivers, SaysFront}
 
 pub grown-nothing : (written : Option (List ℕ)) → grown [] written ≡ written
 grown-nothing None = refl

@@ -1,11 +1,11 @@
 -- The action `dkms add`: its refusals in their order, and the transaction. After dkms(8), and this project's own.
-use Rattle.std.specs.Prelude.{ℕ, Bool, cond, List, ◌++◌, Option, Some, None, is_some, codes}
+use Rattle.std.specs.Prelude.{ℕ, cond, List, ◌++◌, Option, Some, None, is_some, codes}
 use Rattle.std.specs.Option.{option_or, option_map}
 use Rattle.kb_world.specs.Job.{key_text}
 use Rattle.kb_world.specs.Path.{Path}
 use Rattle.kb_world.specs.Tree.{Tree, node_at, is_dir, is_file, link_text}
 use Rattle.kb_world.specs.Store.{module_path, version_path, link_path, source_path, conf_path, source_text, says}
-use Rattle.kb_world.specs.Steps.{blocking, add_blocked, add_step}
+use Rattle.kb_world.specs.Steps.{blocking, add_step}
 use Rattle.kb_world.specs.Outcome.{Action, unless, transaction, ◌then◌}
 use Rattle.kb_world.specs.declared.roots.Roots.{Roots}
 use Rattle.kb_world.specs.declared.job.Key.{Key}

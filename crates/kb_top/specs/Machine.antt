@@ -1,5 +1,5 @@
 -- The command machine: what words do to a store and the foreign tree. This project's own.
-use Rattle.std.specs.Prelude.{ℕ, Bool, cond, List, Option, Some, None, Result, Ok, Err, is_some, codes}
+use Rattle.std.specs.Prelude.{ℕ, cond, List, Option, Some, None, Result, Ok, Err, is_some, codes}
 use Rattle.kb_world.specs.Tree.{Tree, node_at}
 use Rattle.kb_world.specs.Public.{intent_path, public_tree, foreign_tree}
 use Rattle.kb_world.specs.Outcome.{Outcome, Action, refuse_if, unless, print, ◌then◌}

@@ -1,6 +1,6 @@
 -- Where the parts of a package stand, gathered.
 use Rattle.std.specs.Prelude.{◌≡◌, ℕ, true, List, Option, None}
-use Rattle.kb_world.specs.Path.{Path, child, parent}
+use Rattle.kb_world.specs.Path.{child, parent}
 use Rattle.kb_world.specs.Tree.{Tree, node_at, with_node, is_dir}
 use Rattle.kb_world.specs.Steps.{with_directory, blocking}
 use Rattle.kb_world.specs.declared.tree.Node.TheVariants as node

@@ -1,5 +1,5 @@
 -- What the top call does to the world and to its two sinks. This project's own.
-use Rattle.std.specs.Prelude.{◌≡◌, ◌⊎◌, ℕ, ◌≤◌, List, ◌++◌, take, Option, Some, None, Bool, true, is_some, IsTrue}
+use Rattle.std.specs.Prelude.{◌≡◌, ◌⊎◌, ℕ, ◌≤◌, List, ◌++◌, take, Option, Some, None, true, is_some, IsTrue}
 use Rattle.std.specs.Option.{ForSome}
 use Rattle.kb_world.specs.Tree.{Tree, node_at}
 use Rattle.kb_world.specs.Public.{public_tree, intent_path}

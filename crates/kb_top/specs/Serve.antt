@@ -1,5 +1,5 @@
 -- What a command does to the world, and what it has to say of it. This project's own.
-use Rattle.std.specs.Prelude.{◌≡◌, ℕ, List, Result, true, is_some, IsErrOf}
+use Rattle.std.specs.Prelude.{◌≡◌, List, Result, true, is_some}
 use Rattle.std.specs.Option.{ForSome}
 use Rattle.kb_world.specs.Tree.{node_at}
 use Rattle.kb_world.specs.Public.{intent_path, public_tree}

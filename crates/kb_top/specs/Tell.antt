@@ -1,5 +1,5 @@
 -- How a report is written to the two sinks. This project's own.
-use Rattle.std.specs.Prelude.{◌≡◌, ◌⊎◌, ℕ, ◌≤◌, List, ◌++◌, Result, Ok, Err, IsTrue, IsErrOf}
+use Rattle.std.specs.Prelude.{◌≡◌, ◌⊎◌, ℕ, ◌≤◌, List, ◌++◌, Result, Ok, Err, IsTrue}
 use Rattle.kb_world.specs.State.{Rose}
 use Rattle.kb_world.specs.SinkState.{SinkState}
 use Rattle.kb_world.specs.Refusal.{message_of, fault_line, no_memory_line}

@@ -1,9 +1,8 @@
 -- The refusals are those of the public tree, and the link is the definition's step.
-use Rattle.std.proofs.Common.{◌≡◌, ◌++◌, true, ap, sym, refl, ◌∙◌, subst}
+use Rattle.std.proofs.Common.{◌++◌, ap, sym, refl, ◌∙◌, subst}
 use Rattle.std.proofs.lemmas.Result.{err_from_is_err_and}
-use Rattle.kb_world.specs.Tree.{Tree}
 use Rattle.kb_top.specs.declared.add.Places.{Places}
-use Rattle.kb_top.specs.Places.{places_of, place_refusal, IsNested, CanPlace}
+use Rattle.kb_top.specs.Places.{place_refusal, CanPlace}
 use Rattle.kb_top.proofs.DoesAdd.{add_refused, add_ends, can_place}
 use Rattle.kb_top.proofs.add.add.Goals as goal
 

@@ -1,5 +1,5 @@
 -- Each directory is there before what stands in it is made.
-use Rattle.std.proofs.Common.{◌≡◌, true, ap, ◌∙◌, sym, subst}
+use Rattle.std.proofs.Common.{ap, ◌∙◌, sym, subst}
 use Rattle.kb_world.specs.Path.{parent}
 use Rattle.kb_world.specs.Tree.{Tree, node_at, is_dir, CanMake}
 use Rattle.kb_world.specs.Steps.{with_directory}

@@ -1,11 +1,8 @@
 -- What a command does is what the machine says.
-use Rattle.std.proofs.Common.{◌≡◌, ◌++◌, None, Ok, ap, sym, refl, ◌∙◌, subst}
+use Rattle.std.proofs.Common.{◌++◌, ap, sym, refl, ◌∙◌}
 use Rattle.std.proofs.lemmas.Result.{err_from_is_err_and}
-use Rattle.kb_world.specs.Does.{Does}
-use Rattle.kb_world.specs.Outcome.{Action}
-use Rattle.kb_top.specs.declared.words.Command.{Command}
 use Rattle.kb_top.specs.Add.{add}
-use Rattle.kb_top.specs.Machine.{no_roots_of_add, help_text, perform}
+use Rattle.kb_top.specs.Machine.{no_roots_of_add, help_text}
 use Rattle.kb_top.specs.Words.{bad_name}
 use Rattle.kb_world.proofs.DoesLaws.{does_refused, does_passed}
 use Rattle.kb_top.proofs.ServeLaws.{good_key, roots_shown, help_printed}

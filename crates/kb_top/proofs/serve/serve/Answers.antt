@@ -1,5 +1,4 @@
 -- The whole command is the outcome of its words.
-use Rattle.std.proofs.Common.{◌≡◌, ap, sym, refl, ◌∙◌}
 use Rattle.std.proofs.lemmas.Result.{err_from_is_err_and}
 use Rattle.kb_top.proofs.ServeLaws.{serves_damaged, serves_unread, serves_done, read_good}
 use Rattle.kb_top.proofs.serve.serve.Goals as goal
