@@ -4,5 +4,6 @@ pub mod Places
 pub mod Read
 pub mod Run
 pub mod Serve
+pub mod Setting
 pub mod Tell
 pub mod Words

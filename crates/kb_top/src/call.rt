@@ -1,7 +1,8 @@
 // The top call.
-ghost use Rattle.std.specs.Prelude.{◌≡◌, None, [], IfOk};
-ghost use Rattle.kb_world.specs.Roots.{AreApart, roots_under};
+ghost use Rattle.std.specs.Prelude.{◌≡◌, None, IfOk};
+ghost use Rattle.kb_world.specs.Roots.{AreApart};
 ghost use Rattle.kb_top.specs.Run.{Runs};
+ghost use Rattle.kb_top.specs.Setting.{host_for};
 
 use crate::end::End;
 use crate::serve::serve;
@@ -54,7 +55,7 @@ fn copy_if_any(text: &Option<Text>) -> Result<Option<Text>, AllocError>
 
 // The machine that the setting tells of, with the roots below `/`.
 fn host_of(alloc: Global, setting: &Setting) -> Result<Host, AllocError>
-    ensures { IfOk result (λ host. host.roots ≡ roots_under []) }
+    ensures { IfOk result (λ host. host ≡ host_for setting.now) }
 {
     let arch = match &setting.machine {
         Some(machine) => machine.clone()?,
@@ -78,7 +79,7 @@ pub fn start<W: World, O: Sink, E: Sink>(
     err: &mut E,
 ) -> End
     requires { (setting.now.root ≡ None) × (setting.now.boot ≡ None) }
-    ensures { Runs (roots_under []) words.now (record { world = W.state world.old; out = O.state out.old; err = E.state err.old })
+    ensures { Runs (host_for setting.now).roots words.now (record { world = W.state world.old; out = O.state out.old; err = E.state err.old })
         (record { world = W.state world.new; out = O.state out.new; err = E.state err.new }) result }
 {
     match host_of(alloc, setting) {
