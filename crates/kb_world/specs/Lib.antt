@@ -1,11 +1,14 @@
+pub mod Area
 pub mod Does
 pub mod Job
+pub mod Moves
 pub mod Names
 pub mod Outcome
 pub mod Path
 pub mod Public
 pub mod Refusal
 pub mod Roots
+pub mod Script
 pub mod SinkState
 pub mod State
 pub mod Steps
@@ -13,3 +16,4 @@ pub mod Stop
 pub mod Store
 pub mod Tree
 pub mod TreeLaws
+pub mod View
