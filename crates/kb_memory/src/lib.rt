@@ -6,6 +6,8 @@ mod failures;
 mod nodes;
 mod script;
 mod sink;
+#[cfg(test)]
+mod tests;
 mod world;
 
 pub use sink::MemorySink;

@@ -44,25 +44,14 @@ fn is_dir(node: &Node) -> bool
 }
 
 // The file or link that the request sees at the path.
-fn seen_at<'a>(
-    nodes: &'a Nodes,
-    roots: &Roots,
-    request: &Request,
-    path: &Path,
-) -> Option<&'a Node>
+fn seen_at<'a>(nodes: &'a Nodes, roots: &Roots, request: &Request, path: &Path) -> Option<&'a Node>
     ensures { option_copied result ≡ node_at (view.view_of roots.now request.now nodes.now) path.now }
 {
     if !sees(roots, request, path) {
         return None;
     }
     match nodes.get(path) {
-        Some(node) => {
-            if is_dir(node) {
-                None
-            } else {
-                Some(node)
-            }
-        }
+        Some(node) => { if is_dir(node) { None } else { Some(node) } }
         None => None,
     }
 }

@@ -247,13 +247,7 @@ impl World for MemoryWorld {
         ensures counted { plan_of self.new ≡ after_call (plan_of self.old) }
     {
         self.record(request)?;
-        Ok(perform(
-            alloc,
-            &mut self.nodes,
-            &self.roots,
-            &self.script,
-            request,
-        )?)
+        Ok(perform(alloc, &mut self.nodes, &self.roots, &self.script, request)?)
     }
 
     fn settle(&mut self, _alloc: Global, _area: &Area) -> Result<(), WorldError>
