@@ -109,20 +109,6 @@ fn list(alloc: Global, world: &mut MemoryWorld, text: &str) -> Result<Option<usi
     }
 }
 
-fn remove_dir(alloc: Global, world: &mut MemoryWorld, text: &str) -> Result<bool, Fail> {
-    let path = path(alloc, text)?;
-    match world.node(&path) {
-        Some(Node::Dir) => {
-            if !world.list(alloc, &path)?.is_empty() {
-                return Ok(false);
-            }
-            world.remove_dir(alloc, &path)?;
-            Ok(true)
-        }
-        _ => Ok(false),
-    }
-}
-
 fn unlink(alloc: Global, world: &mut MemoryWorld, text: &str) -> Result<bool, Fail> {
     let path = path(alloc, text)?;
     match world.node(&path) {
@@ -152,9 +138,6 @@ fn puts_and_reads(rt: &impl Abort, alloc: Global, world: &mut MemoryWorld) -> Re
     assert!(rt; list(alloc, world, "/")? == Some(1));
     assert!(rt; holds(alloc, world, "/a/in", b"old")?);
     assert!(rt; unlink(alloc, world, "/a/a")?);
-    assert!(rt; !remove_dir(alloc, world, "/a")?);
-    assert!(rt; make_dir(alloc, world, "/a/b")?);
-    assert!(rt; remove_dir(alloc, world, "/a/b")?);
     assert!(rt; list(alloc, world, "/a")? == Some(1));
     Ok(())
 }
