@@ -1,2 +1,4 @@
-pub mod UntoldLaws
+pub mod ChildLaws
+pub mod ListingLaws
 pub mod PieceLaws
+pub mod UntoldLaws
