@@ -1,4 +1,5 @@
 pub mod ChildLaws
 pub mod ListingLaws
+pub mod OutputLaws
 pub mod PieceLaws
 pub mod UntoldLaws

@@ -3,7 +3,7 @@ ghost use Rattle.std.specs.Prelude.{◌≡◌, ◌++◌, [], ◌∷◌, List, �
 ghost use Rattle.std.specs.Process.{status_bits, command_program, command_args, command_var, command_dir, clears_env, SameEnv, SameOtherVars, SameProgramAndArgs};
 ghost use Rattle.kb_real.specs.Children.{IsCommand, var_after, reply_code};
 
-use crate::outputs::{Output, read_both};
+use crate::outputs::read_both;
 use kb_world::{Reply, Request, Text};
 use std::alloc::{AllocError, Global};
 use std::io;
@@ -108,19 +108,19 @@ fn cut_off(child: &mut Child<SystemProcess>) {
     }
 }
 
-// What the child wrote and how it ended.
+// What the child wrote, as its two outputs give it, and how it ended.
 fn await_reply(
+    alloc: Global,
     child: &mut Child<SystemProcess>,
-    out: &mut Output<ChildStdout>,
-    err: &mut Output<ChildStderr>,
-) -> io::Result<u8> {
-    match read_both(out, err) {
-        Ok(()) => Ok(code_of(child.wait()?)),
-        Err(error) => {
-            cut_off(child);
-            Err(error)
-        }
-    }
+    stdout: ChildStdout,
+    stderr: ChildStderr,
+) -> io::Result<Reply> {
+    let (out, err) = read_both(alloc, stdout, stderr)?;
+    Ok(Reply {
+        code: code_of(child.wait()?),
+        out,
+        err,
+    })
 }
 
 /// Runs a child program to its end. Its standard input is empty. One that can't be started is an error, and one whose
@@ -136,20 +136,12 @@ pub fn run_child<R: Processes<Started = SystemProcess>>(
         .stdout(Stdio::piped())
         .stderr(Stdio::piped());
     let mut child = command.spawn(rt)?;
-    match (child.stdout.take(), child.stderr.take()) {
-        (Some(stdout), Some(stderr)) => {
-            let mut out = Output::new(alloc, stdout);
-            let mut err = Output::new(alloc, stderr);
-            let code = await_reply(&mut child, &mut out, &mut err)?;
-            Ok(Reply {
-                code,
-                out: out.into_kept(),
-                err: err.into_kept(),
-            })
-        }
-        _ => {
-            cut_off(&mut child);
-            Err(io::Error::from(ErrorKind::Other))
-        }
+    let reply = match (child.stdout.take(), child.stderr.take()) {
+        (Some(stdout), Some(stderr)) => await_reply(alloc, &mut child, stdout, stderr),
+        _ => Err(io::Error::from(ErrorKind::BrokenPipe)),
+    };
+    if reply.is_err() {
+        cut_off(&mut child);
     }
+    reply
 }

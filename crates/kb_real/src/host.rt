@@ -6,8 +6,8 @@ ghost use Rattle.kb_world.specs.Names.{is_name};
 ghost use Rattle.kb_real.specs.Faults.{faults_after};
 ghost use Rattle.kb_real.specs.Untold.{untold};
 
-use crate::faults::Faults;
 use crate::children::run_child;
+use crate::faults::Faults;
 use crate::settle::sync_area;
 use crate::{changes, files};
 use kb_world::{Area, Bytes, Kind, Path, Reply, Request, Text, World, WorldError};

@@ -1,6 +1,6 @@
 // What a child writes to its two outputs.
-ghost use Rattle.std.specs.Prelude.{◌≡◌, ◌++◌, ◌-◌, length, take, OnOk};
-ghost use Rattle.kb_real.specs.Outputs.{most_kept};
+ghost use Rattle.std.specs.Prelude.{◌≡◌, ◌++◌, ◌-◌, ℕ, List, Option, true, length, take, IfOk, OnOk};
+ghost use Rattle.kb_real.specs.Outputs.{most_kept, IsReadTo, KeepsFront};
 
 use crate::pieces::{MOST_CALLS, READ_SIZE, given_up, read_once};
 use kb_world::Bytes;
@@ -22,29 +22,23 @@ fn keep(kept: &mut Bytes, piece: &[u8]) -> Result<(), AllocError>
     kept.push(&piece[..piece.len().min(room)])
 }
 
-/// One output of a child, as far as it was read.
+// One output of a child, as far as it was read.
 #[derive(Drop)]
-pub struct Output<R> {
+struct Output<R> {
     reader: R,
     kept: Bytes,
     is_at_end: bool,
 }
 
 impl<R: Read + AsRawFd + Drop> Output<R> {
-    /// An output of which nothing was read.
-    pub fn new(alloc: Global, reader: R) -> Output<R> {
+    fn new(alloc: Global, reader: R) -> Output<R>
+        ensures { IsReadTo (R.remaining reader) (R.remaining result.reader) result.kept result.is_at_end }
+    {
         Output {
             reader,
             kept: Bytes::new(alloc),
             is_at_end: false,
         }
-    }
-
-    /// What was kept.
-    pub fn into_kept(self) -> Bytes
-        ensures { result ≡ self.kept }
-    {
-        self.kept
     }
 
     // What to wait for; the system passes over a descriptor below 0.
@@ -56,8 +50,14 @@ impl<R: Read + AsRawFd + Drop> Output<R> {
         }
     }
 
-    // Reads once, and keeps what there is room for.
-    fn read_some(&mut self) -> io::Result<()> {
+    // Reads once, where a read doesn't wait and there may be more, and keeps what there is room for.
+    fn read_if(&mut self, is_ready: bool) -> io::Result<()>
+        ensures { OnOk result ((first : Option (List ℕ)) → IsReadTo first (R.remaining self.old.reader) self.old.kept self.old.is_at_end
+            → IsReadTo first (R.remaining self.new.reader) self.new.kept self.new.is_at_end) }
+    {
+        if self.is_at_end || !is_ready {
+            return Ok(());
+        }
         let mut buffer = [0u8; READ_SIZE];
         match read_once(&mut self.reader, &mut buffer)? {
             Some(0) => self.is_at_end = true,
@@ -85,24 +85,39 @@ fn wait_for_either(first: RawFd, second: RawFd) -> io::Result<(bool, bool)> {
     }
 }
 
-/// Reads two outputs to their ends, each as it comes, so that a child which waits until one is read is never left
-/// waiting. Outputs that haven't ended after 2^32 turns are an error.
-pub fn read_both<O, E>(out: &mut Output<O>, err: &mut Output<E>) -> io::Result<()>
+// Reads both to their ends.
+fn read_to_ends<O, E>(out: &mut Output<O>, err: &mut Output<E>) -> io::Result<()>
 where
     O: Read + AsRawFd + Drop,
     E: Read + AsRawFd + Drop,
+    ensures out { OnOk result ((first : Option (List ℕ)) → IsReadTo first (O.remaining out.old.reader) out.old.kept out.old.is_at_end
+        → IsReadTo first (O.remaining out.new.reader) out.new.kept true) }
+    ensures err { OnOk result ((first : Option (List ℕ)) → IsReadTo first (E.remaining err.old.reader) err.old.kept err.old.is_at_end
+        → IsReadTo first (E.remaining err.new.reader) err.new.kept true) }
 {
     for _ in 0..MOST_CALLS {
         if out.is_at_end && err.is_at_end {
             return Ok(());
         }
         let (out_is_ready, err_is_ready) = wait_for_either(out.descriptor(), err.descriptor())?;
-        if out_is_ready {
-            out.read_some()?;
-        }
-        if err_is_ready {
-            err.read_some()?;
-        }
+        out.read_if(out_is_ready)?;
+        err.read_if(err_is_ready)?;
     }
     Err(given_up())
+}
+
+/// The first 4 MiB of what each of two outputs gives to its end; the rest is read and dropped. Each is read as it
+/// comes, so that a child which waits until one of them is read is never left waiting. Outputs that haven't ended after
+/// 2^32 turns are an error.
+pub fn read_both<O, E>(alloc: Global, out: O, err: E) -> io::Result<(Bytes, Bytes)>
+where
+    O: Read + AsRawFd + Drop,
+    E: Read + AsRawFd + Drop,
+    ensures out { IfOk result (λ kept. KeepsFront (O.remaining out) kept.0) }
+    ensures err { IfOk result (λ kept. KeepsFront (E.remaining err) kept.1) }
+{
+    let mut out = Output::new(alloc, out);
+    let mut err = Output::new(alloc, err);
+    read_to_ends(&mut out, &mut err)?;
+    Ok((out.kept, err.kept))
 }

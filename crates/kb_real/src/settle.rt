@@ -34,12 +34,7 @@ fn add_entries<R: Files>(
 
 // Waits until what stands at the path is on the disk, and adds what a directory holds to the paths that are left. A
 // link isn't followed: its directory has its text. What is neither a directory nor a regular file isn't opened.
-fn sync_path<R: Files>(
-    rt: &R,
-    alloc: Global,
-    path: &Path,
-    left: &mut Vec<Path>,
-) -> io::Result<()> {
+fn sync_path<R: Files>(rt: &R, alloc: Global, path: &Path, left: &mut Vec<Path>) -> io::Result<()> {
     let text = path.text(alloc)?;
     let metadata = match fs::symlink_metadata(rt, text.as_str()) {
         Ok(metadata) => metadata,
@@ -75,15 +70,13 @@ fn sync_under<R: Files>(rt: &R, alloc: Global, directory: &Path) -> io::Result<(
 }
 
 // The files of these names in the directory, and the directory. What is no name stands in no directory.
-fn sync_names<R: Files>(
-    rt: &R,
-    alloc: Global,
-    directory: &Path,
-    names: &[Text],
-) -> io::Result<()> {
+fn sync_names<R: Files>(rt: &R, alloc: Global, directory: &Path, names: &[Text]) -> io::Result<()> {
     for name in names {
         if is_name(name.as_str()) {
-            sync_file(rt, directory.child(alloc, name.as_str())?.text(alloc)?.as_str())?;
+            sync_file(
+                rt,
+                directory.child(alloc, name.as_str())?.text(alloc)?.as_str(),
+            )?;
         }
     }
     sync_if_there(rt, path::Path::new(directory.text(alloc)?.as_str()))

@@ -76,7 +76,8 @@ fn tells_how_a_child_ended(rt: HostRuntime) -> Result<(), Fail> {
 fn keeps_the_first_of_much_output(rt: HostRuntime) -> Result<(), Fail> {
     let alloc = rt.alloc();
     let folder = make_folder(rt, "keeps_the_first_of_much_output")?;
-    let line = "printf err >&2; head -c 10485760 /dev/zero >&2; printf out; head -c 10485760 /dev/zero";
+    let line =
+        "printf err >&2; head -c 10485760 /dev/zero >&2; printf out; head -c 10485760 /dev/zero";
     let request = request(alloc, &folder, "sh", &["-c", line])?;
     let reply = HostWorld::new(rt).run(alloc, &request)?;
     assert_eq!(rt; reply.code, 0);
@@ -92,7 +93,11 @@ fn a_child_that_cannot_be_started_is_a_fault(rt: HostRuntime) -> Result<(), Fail
     let alloc = rt.alloc();
     let folder = make_folder(rt, "a_child_that_cannot_be_started_is_a_fault")?;
     let absent = below(alloc, &folder, "absent")?;
-    for (directory, program) in [(&folder, "kmodboot-absent"), (&folder, "/"), (&absent, "true")] {
+    for (directory, program) in [
+        (&folder, "kmodboot-absent"),
+        (&folder, "/"),
+        (&absent, "true"),
+    ] {
         let request = request(alloc, directory, program, &[])?;
         let reply = HostWorld::new(rt).run(alloc, &request);
         assert_eq!(rt; reply.err(), Some(WorldError::Failed), "{program}");
@@ -106,7 +111,9 @@ fn a_child_has_its_environment_and_directory(rt: HostRuntime) -> Result<(), Fail
     let folder = make_folder(rt, "a_child_has_its_environment_and_directory")?;
     let mut request = request(alloc, &folder, "env", &[])?;
     for (name, value) in [("ONE", "1"), ("TWO", "a b"), ("PATH", "/nowhere")] {
-        request.env.push((Text::of(alloc, name)?, Text::of(alloc, value)?))?;
+        request
+            .env
+            .push((Text::of(alloc, name)?, Text::of(alloc, value)?))?;
     }
     let reply = HostWorld::new(rt).run(alloc, &request)?;
     assert_eq!(rt;

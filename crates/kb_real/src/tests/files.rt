@@ -45,14 +45,30 @@ fn refuse_reads(
     world: &mut HostWorld<HostRuntime>,
     folder: &Path,
 ) -> Result<(), Fail> {
-    assert_eq!(rt; shell(alloc, world, folder, "mkdir directory; mkfifo pipe; touch file; ln -s file link; ln -s directory way")?, 0);
+    assert_eq!(rt;
+        shell(
+            alloc,
+            world,
+            folder,
+            "mkdir directory; mkfifo pipe; touch file; ln -s file link; ln -s directory way"
+        )?,
+        0
+    );
     for name in ["directory", "pipe", "link", "absent", "file/inside"] {
         let path = below(alloc, folder, name)?;
-        assert_eq!(rt; world.read(alloc, &path).err(), Some(WorldError::Failed), "{name}");
+        assert_eq!(rt;
+            world.read(alloc, &path).err(),
+            Some(WorldError::Failed),
+            "{name}"
+        );
     }
     for name in ["pipe", "file", "way", "absent"] {
         let path = below(alloc, folder, name)?;
-        assert_eq!(rt; world.list(alloc, &path).err(), Some(WorldError::Failed), "{name}");
+        assert_eq!(rt;
+            world.list(alloc, &path).err(),
+            Some(WorldError::Failed),
+            "{name}"
+        );
     }
     let pipe = below(alloc, folder, "pipe")?;
     assert_eq!(rt; world.look(alloc, &pipe).err(), Some(WorldError::Failed));
@@ -73,7 +89,15 @@ fn list_names(
     folder: &Path,
 ) -> Result<(), Fail> {
     assert!(rt; world.list(alloc, folder)?.is_empty());
-    assert_eq!(rt; shell(alloc, world, folder, "touch b .c 'a b'; mkdir a; ln -s nowhere B")?, 0);
+    assert_eq!(rt;
+        shell(
+            alloc,
+            world,
+            folder,
+            "touch b .c 'a b'; mkdir a; ln -s nowhere B"
+        )?,
+        0
+    );
     let names = world.list(alloc, folder)?;
     let mut told = String::new(alloc);
     for name in &names {
@@ -81,7 +105,10 @@ fn list_names(
         told.push_str("/")?;
     }
     assert_eq!(rt; told.as_str(), ".c/B/a/a b/b/");
-    assert_eq!(rt; shell(alloc, world, folder, "touch \"$(printf '\\377')\"")?, 0);
+    assert_eq!(rt;
+        shell(alloc, world, folder, "touch \"$(printf '\\377')\"")?,
+        0
+    );
     assert_eq!(rt; world.list(alloc, folder).err(), Some(WorldError::Failed));
     Ok(())
 }
@@ -100,7 +127,15 @@ fn move_files(
     world: &mut HostWorld<HostRuntime>,
     folder: &Path,
 ) -> Result<(), Fail> {
-    assert_eq!(rt; shell(alloc, world, folder, "mkdir d e; mkfifo p; printf 1 > f; printf 2 > g; ln g h; ln -s f l")?, 0);
+    assert_eq!(rt;
+        shell(
+            alloc,
+            world,
+            folder,
+            "mkdir d e; mkfifo p; printf 1 > f; printf 2 > g; ln g h; ln -s f l"
+        )?,
+        0
+    );
     for (from, to, done) in [
         ("f", "d/f", true),
         ("g", "d/f", true),
@@ -116,7 +151,11 @@ fn move_files(
     ] {
         let (source, target) = (below(alloc, folder, from)?, below(alloc, folder, to)?);
         let wanted = if done { Ok(()) } else { FAILED };
-        assert_eq!(rt; world.rename(alloc, &source, &target), wanted, "{from} {to}");
+        assert_eq!(rt;
+            world.rename(alloc, &source, &target),
+            wanted,
+            "{from} {to}"
+        );
     }
     let (link, moved) = (below(alloc, folder, "f")?, below(alloc, folder, "l")?);
     assert_eq!(rt; world.read_link(alloc, &link)?.as_str(), "f");
@@ -140,14 +179,34 @@ fn remove_all(
     world: &mut HostWorld<HostRuntime>,
     folder: &Path,
 ) -> Result<(), Fail> {
-    assert_eq!(rt; shell(alloc, world, folder, "mkdir d e; mkfifo p; touch f d/f; ln -s e l")?, 0);
-    for (name, done) in [("f", true), ("f", false), ("d", false), ("p", false), ("d/f", true)] {
+    assert_eq!(rt;
+        shell(
+            alloc,
+            world,
+            folder,
+            "mkdir d e; mkfifo p; touch f d/f; ln -s e l"
+        )?,
+        0
+    );
+    for (name, done) in [
+        ("f", true),
+        ("f", false),
+        ("d", false),
+        ("p", false),
+        ("d/f", true),
+    ] {
         let path = below(alloc, folder, name)?;
         let wanted = if done { Ok(()) } else { FAILED };
         assert_eq!(rt; world.unlink(alloc, &path), wanted, "{name}");
     }
     assert_eq!(rt; shell(alloc, world, folder, "touch d/f")?, 0);
-    for (name, done) in [("d", false), ("l", false), ("d/f", false), ("e", true), ("e", false)] {
+    for (name, done) in [
+        ("d", false),
+        ("l", false),
+        ("d/f", false),
+        ("e", true),
+        ("e", false),
+    ] {
         let path = below(alloc, folder, name)?;
         let wanted = if done { Ok(()) } else { FAILED };
         assert_eq!(rt; world.remove_dir(alloc, &path), wanted, "{name}");

@@ -13,20 +13,42 @@ fn settle_areas(
     world: &mut HostWorld<HostRuntime>,
     folder: &Path,
 ) -> Result<(), Fail> {
-    assert_eq!(rt; shell(alloc, world, folder, "mkdir -p a/b; touch a/b/file file; ln -s .. a/link; mkfifo a/pipe pipe")?, 0);
+    assert_eq!(rt;
+        shell(
+            alloc,
+            world,
+            folder,
+            "mkdir -p a/b; touch a/b/file file; ln -s .. a/link; mkfifo a/pipe pipe"
+        )?,
+        0
+    );
     for name in ["a", "file", "absent", "absent/entry", "file/entry"] {
         let path = below(alloc, folder, name)?;
-        assert_eq!(rt; world.settle(alloc, &Area::Under(path.clone()?)), Ok(()), "{name}");
+        assert_eq!(rt;
+            world.settle(alloc, &Area::Under(path.clone()?)),
+            Ok(()),
+            "{name}"
+        );
         let mut names = Texts::new(alloc);
         for name in ["file", "pipe", "absent", "a/b", ""] {
             names.push(Text::of(alloc, name)?)?;
         }
-        assert_eq!(rt; world.settle(alloc, &Area::Names(path, names)), Ok(()), "{name}");
+        assert_eq!(rt;
+            world.settle(alloc, &Area::Names(path, names)),
+            Ok(()),
+            "{name}"
+        );
     }
     assert_eq!(rt; world.settle(alloc, &Area::Nothing), Ok(()));
-    assert_eq!(rt; shell(alloc, world, folder, "touch \"$(printf 'a/b/\\377')\"")?, 0);
+    assert_eq!(rt;
+        shell(alloc, world, folder, "touch \"$(printf 'a/b/\\377')\"")?,
+        0
+    );
     let path = below(alloc, folder, "a")?;
-    assert_eq!(rt; world.settle(alloc, &Area::Under(path)), Err(WorldError::Failed));
+    assert_eq!(rt;
+        world.settle(alloc, &Area::Under(path)),
+        Err(WorldError::Failed)
+    );
     Ok(())
 }
 
