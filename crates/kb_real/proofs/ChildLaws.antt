@@ -1,5 +1,5 @@
 -- What a command says of its variables, as they are set one by one.
-use Rattle.std.proofs.Common.{◌≡◌, ℕ, ◌+◌, ◌<◌, Bool, true, false, cond, List, [], ◌∷◌, ◌++◌, length, get_or, take, Option, None, Some, refl, sym, ap, ◌∙◌, bytes_eq}
+use Rattle.std.proofs.Common.{◌≡◌, ℕ, ◌+◌, ◌<◌, Bool, true, false, cond, List, [], ◌∷◌, ◌++◌, length, get_or, take, Option, Some, refl, sym, ap, ◌∙◌, bytes_eq}
 use Rattle.std.specs.Process.{command_var, SameOtherVars}
 use Rattle.std.specs.declared.process.command.Command.{Command}
 use Rattle.std.proofs.lemmas.List.{take_more}

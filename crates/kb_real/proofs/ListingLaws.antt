@@ -1,5 +1,5 @@
 -- A test that all items pass, whatever their order.
-use Rattle.std.proofs.Common.{◌≡◌, Bool, true, List, IsPermutation, IsTrue, All}
+use Rattle.std.proofs.Common.{◌≡◌, Bool, true, List, IsPermutation, IsTrue}
 use Rattle.std.specs.List.{list_all}
 use Rattle.std.proofs.lemmas.List.Sums.{AllPass-from_list_all, list_all-from_AllPass}
 use Rattle.std.proofs.lemmas.List.Sorted.{All-permutation}

@@ -1,5 +1,5 @@
 -- What was read of a reader and written of a piece, after one more call.
-use Rattle.std.proofs.Common.{◌≡◌, ℕ, ◌+◌, ◌-◌, ◌^◌, min, List, ◌++◌, length, take, drop, sym, ap, ◌∙◌, subst, Option, Some, None, Result, Ok, Err, OnErr, ◌≤◌, arith, length-append, length-take, append_assoc, take-append-drop}
+use Rattle.std.proofs.Common.{◌≡◌, ℕ, ◌+◌, ◌-◌, ◌^◌, min, List, ◌++◌, length, take, drop, sym, ap, ◌∙◌, subst, Option, Some, None, Result, Ok, Err, OnErr, arith, length-append, length-take, append_assoc, take-append-drop}
 use Rattle.std.proofs.Math.Seq.{take-append_seam}
 use Rattle.std.proofs.lemmas.List.{take_rest}
 use Rattle.std.proofs.KnownBytes.{Appends-trans, Consumes-trans, Consumes-kept}

@@ -1,5 +1,5 @@
 -- How a request for a child becomes a command, and how a child's end becomes a reply. This project's own.
-use Rattle.std.specs.Prelude.{◌≡◌, ℕ, ◌+◌, ◌/◌, ◌%◌, ◌==◌, min, true, List, Option, Some, None, option_map, bytes_eq, codes, cond, if◌then◌else◌}
+use Rattle.std.specs.Prelude.{◌≡◌, ℕ, ◌+◌, ◌/◌, ◌%◌, ◌==◌, min, true, List, Option, Some, None, bytes_eq, codes, cond, if◌then◌else◌}
 use Rattle.std.specs.List.{fold}
 use Rattle.std.specs.Process.{command_program, command_args, command_var, command_dir, clears_env}
 use Rattle.std.specs.declared.process.command.Command.{Command}

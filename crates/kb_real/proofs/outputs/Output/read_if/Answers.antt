@@ -1,4 +1,3 @@
-use Rattle.std.proofs.Common.{◌∙◌}
 use Rattle.kb_real.proofs.OutputLaws.{told_end, more_kept, none_kept}
 use Rattle.kb_real.proofs.outputs.Output.read_if.Goals as goal
 
