@@ -18,7 +18,8 @@ use std::io::ErrorKind;
 use std::process::{Processes, SystemProcess};
 
 /// The files of the system that the program runs on, and child programs. It doesn't tell its tree: a condition that
-/// isn't met, as of a directory that is made where something stands, is a fault. `R` is the runtime, which `main` is given.
+/// isn't met, as of a directory that is made where something stands, is a fault. `R` is the runtime, which `main` is
+/// given. Its children are the system's own, since their outputs are waited for by their descriptors.
 #[derive(Drop)]
 pub struct HostWorld<R> {
     rt: R,

@@ -1,5 +1,6 @@
-//! The real outside: the system's files, its child programs, and standard output and error. This is the trusted edge. No proof knows
-//! what the system holds or takes, so a world and a sink of this crate tell nothing but how often they failed.
+//! The real outside: the system's files, its child programs, and standard output and error. This is the trusted edge.
+//! No proof knows what the system holds or takes, so a world and a sink of this crate tell nothing but how often they
+//! failed.
 #![tactic(auto)]
 
 mod changes;

@@ -26,14 +26,7 @@ fn main(rt: HostRuntime) -> ExitCode {
     let mut out = StdSink::out(rt);
     let mut err = StdSink::err(rt);
     let end = match read_all(rt) {
-        Ok((words, setting)) => start(
-            rt.alloc(),
-            &words,
-            &setting,
-            &mut world,
-            &mut out,
-            &mut err,
-        ),
+        Ok((words, setting)) => start(rt.alloc(), &words, &setting, &mut world, &mut out, &mut err),
         Err(_) => {
             let _ = err.write(no_memory_line().as_bytes());
             End::NoMemory
