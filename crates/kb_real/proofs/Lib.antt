@@ -1,2 +1,5 @@
-pub mod UntoldLaws
+pub mod ChildLaws
+pub mod ListingLaws
+pub mod OutputLaws
 pub mod PieceLaws
+pub mod UntoldLaws

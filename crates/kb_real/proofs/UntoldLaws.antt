@@ -1,7 +1,11 @@
 -- What calls do to a world and a sink that tell their counts of faults alone.
-use Rattle.std.proofs.Common.{◌≡◌, ℕ, ◌≤◌, List, Result, Ok, Err, OnOk, IsErrOf, refl, inl, arith}
+use Rattle.std.proofs.Common.{◌≡◌, ℕ, ◌≤◌, Bool, List, Result, Ok, Err, OnOk, IsErrOf, refl, inl, arith}
+use Rattle.std.proofs.lemmas.Option.{none-some}
+use Rattle.kb_world.specs.Path.{Path}
 use Rattle.kb_world.specs.Tree.{Tree}
-use Rattle.kb_world.specs.State.{HasCause, Looks, Changes, Rose}
+use Rattle.kb_world.specs.State.{HasCause, Lasts, RanNone, Looks, Changes, Puts, Runs, Rose}
+use Rattle.kb_world.specs.declared.child.Request.{Request}
+use Rattle.kb_world.specs.declared.child.Reply.{Reply}
 use Rattle.kb_world.specs.SinkState.{Writes}
 use Rattle.kb_world.specs.declared.sink.SinkError.TheVariants as sink_error
 use Rattle.kb_world.specs.declared.world.WorldError.{WorldError}
@@ -23,9 +27,19 @@ untold_cause before after result later faults = record {
   never = λ steady _. grind arith;
 }
 
+untold_lasts : (before after : ℕ) → Lasts (untold before) (untold after)
+untold_lasts before after = record { roots = refl; script = refl; told = refl }
+
+untold_ran_none : (before after : ℕ) → RanNone (untold before) (untold after)
+untold_ran_none before after = record { ran = refl; lasts = untold_lasts before after }
+
 pub untold_looks : {T : Type 0} (before after : ℕ) (result : Result T WorldError) → before ≤ after → after ≡ faults_after result before
     → Looks (untold before) (untold after) result
-untold_looks before after result later faults = record { tree = refl; roots = refl; cause = untold_cause before after result later faults }
+untold_looks before after result later faults = record {
+  tree = refl;
+  ran_none = untold_ran_none before after;
+  cause = untold_cause before after result later faults;
+}
 
 on_ok : {T : Type 0} (result : Result T WorldError) (P : Type 0) → P → OnOk result P
 on_ok (Ok value) P holds = holds
@@ -37,7 +51,25 @@ untold_changes change before after result later faults = record {
   done = on_ok result _ refl;
   failed = λ _. inl refl;
   no_memory = λ _. refl;
-  roots = refl;
+  ran_none = untold_ran_none before after;
+  cause = untold_cause before after result later faults;
+}
+
+pub untold_puts : {T : Type 0} (path : Path) (bytes : List ℕ) (exec : Bool) (before after : ℕ) (result : Result T WorldError) → before ≤ after → after ≡ faults_after result before
+    → Puts path bytes exec (untold before) (untold after) result
+untold_puts path bytes exec before after result later faults = record {
+  done = on_ok result _ refl;
+  failed = λ _. inl refl;
+  no_memory = λ _. refl;
+  ran_none = untold_ran_none before after;
+  cause = untold_cause before after result later faults;
+}
+
+pub untold_runs : (request : Request) (before after : ℕ) (result : Result Reply WorldError) → before ≤ after → after ≡ faults_after result before
+    → Runs request (untold before) (untold after) result
+untold_runs request before after result later faults = record {
+  ends = λ tree told. absurd (none-some tree told);
+  lasts = untold_lasts before after;
   cause = untold_cause before after result later faults;
 }
 

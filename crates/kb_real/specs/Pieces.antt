@@ -1,7 +1,7 @@
 -- What one read gives. This project's own.
-use Rattle.std.specs.Prelude.{◌≡◌, ℕ, List, length, Option}
-use Rattle.std.specs.Io.KnownBytes.{Consumes, IsAtEnd}
+use Rattle.std.specs.Prelude.{◌≡◌, ℕ, ◌≤◌, List, length, take, Option, MatchOption}
+use Rattle.std.specs.Io.KnownBytes.{Consumes, Keeps, IsAtEnd}
 
--- a read gave this many of the bytes that were left, and none only at their end
-abbrev pub Gives : Option (List ℕ) → Option (List ℕ) → ℕ → Type 0
-Gives old new count = (bytes : List ℕ) × Consumes old new bytes × (length bytes ≡ count) × (count ≡ 0 → IsAtEnd new)
+-- A read that wasn't interrupted gave this many bytes at the buffer's front, and none only at the reader's end.
+abbrev pub Gives : Option (List ℕ) → Option (List ℕ) → List ℕ → Option ℕ → Type 0
+Gives old new buffer read = MatchOption read (Keeps old new) (λ count. (count ≤ length buffer) × Consumes old new (take count buffer) × (count ≡ 0 → IsAtEnd new))

@@ -4,9 +4,10 @@ use Rattle.kb_world.specs.Roots.{roots_under}
 use Rattle.kb_world.specs.State.{State}
 use Rattle.kb_world.specs.SinkState.{SinkState}
 
--- No clause speaks of the roots of a world that doesn't tell its tree, so they are the usual ones.
+-- No clause speaks of the roots, the script and the requests of a world that doesn't tell its tree, so the roots are
+-- the usual ones, and the others are empty.
 abbrev pub untold : ℕ → State
-untold faults = record { tree = None; roots = roots_under []; faults = faults; steady = false }
+untold faults = record { tree = None; roots = roots_under []; script = []; ran = []; faults = faults; steady = false }
 
 abbrev pub untold_sink : ℕ → SinkState
 untold_sink faults = record { written = None; faults = faults; steady = false }

@@ -1,26 +1,25 @@
-// What a world does to the system's files. A path is its text, which begins with `/`.
-ghost use Rattle.std.specs.Prelude.{◌≡◌, ◌≢◌, ◌⊎◌, ◌↔◌, ℕ, IfOk, IfErr, IsErr, IsTrue};
+// What a world reads of the system's files. A path is its text, which begins with `/`.
+ghost use Rattle.std.specs.Prelude.{◌≡◌, ◌≢◌, ◌⊎◌, ◌↔◌, ℕ, IfOk, IsErr, IsTrue};
+ghost use Rattle.std.specs.List.{list_all};
 ghost use Rattle.std.specs.IoError.{error_kind};
 ghost use Rattle.std.specs.Fs.{metadata_len, metadata_mode, file_type, IsDir, IsFile, IsSymlink};
+ghost use Rattle.kb_world.specs.Names.{is_name};
 ghost use Rattle.kb_real.specs.Modes.{owner_executes};
 
-use crate::pieces::length_to_end;
-use kb_world::{Kind, Text};
+use crate::listing::names_in;
+use crate::pieces::{bytes_to_end, length_to_end};
+use kb_world::{Bytes, Kind, Text};
 use std::alloc::Global;
-use std::fs::{Files, Metadata, OpenFile};
+use std::fs::{Files, Metadata};
 use std::io::ErrorKind;
 use std::os::unix::fs::MetadataExt;
-use std::path::Path;
 use std::{fs, io};
-
-// What a new directory lets its owner, its group and others do, as far as the umask leaves it.
-const DIRECTORY_MODE: u32 = 0o755;
 
 // The bit of a file's mode that lets its owner run it.
 const OWNER_EXECUTES: u32 = 0o100;
 
-// Nothing stands at the path: it isn't there, or what it should stand in is no directory.
-fn is_absence(error: &io::Error) -> bool
+/// Nothing stands at the path: it isn't there, or what it should stand in is no directory.
+pub fn is_absence(error: &io::Error) -> bool
     ensures { IsTrue result ↔ ((error_kind error.now ≡ ErrorKind.NotFound) ⊎ (error_kind error.now ≡ ErrorKind.NotADirectory)) }
 {
     matches!(error.kind(), ErrorKind::NotFound | ErrorKind::NotADirectory)
@@ -77,40 +76,19 @@ pub fn link_text_at<R: Files>(rt: &R, alloc: Global, path: &str) -> io::Result<T
     Ok(Text::from_string(text.into_string()))
 }
 
-// The path of the directory that the path stands in; the root's is the root.
-fn parent_of(path: &str) -> Path<'_> {
-    match Path::new(path).parent() {
-        Some(parent) => parent,
-        None => Path::new("/"),
+/// All that the regular file at the path holds. Any other thing is an error, and is never opened: to open a named pipe
+/// is to wait for its writer.
+pub fn bytes_at<R: Files>(rt: &R, alloc: Global, path: &str) -> io::Result<Bytes> {
+    if !fs::symlink_metadata(rt, path)?.is_file() {
+        return Err(io::Error::from(ErrorKind::Unsupported));
     }
+    bytes_to_end(alloc, &mut fs::open(rt, path)?)
 }
 
-// Waits until what the directory lists is on the disk. What it lists was changed before, and want of memory is to say
-// that nothing was, so here it is told as another error.
-fn sync_directory<R: Files>(rt: &R, path: Path<'_>) -> io::Result<()>
-    ensures { IfErr result (λ error. error_kind error ≢ ErrorKind.OutOfMemory) }
+/// The names of the entries of the directory at the path, each once, by bytes. A link at its end isn't followed.
+pub fn names_at<R: Files>(rt: &R, alloc: Global, path: &str) -> io::Result<Vec<Text>>
+    ensures { IfOk result (λ names. IsTrue (list_all is_name names.items)) }
 {
-    match open_and_sync(rt, path) {
-        Err(error) if error.kind() == ErrorKind::OutOfMemory => Err(io::Error::from(
-            ErrorKind::Other,
-        )),
-        synced => synced,
-    }
-}
-
-fn open_and_sync<R: Files>(rt: &R, path: Path<'_>) -> io::Result<()> {
-    fs::open(rt, path)?.sync_all()
-}
-
-/// Makes a directory, and waits until it and its place in its parent are on the disk.
-pub fn make_directory<R: Files>(rt: &R, path: &str) -> io::Result<()> {
-    rt.create_dir_with_mode(path, DIRECTORY_MODE)?;
-    sync_directory(rt, Path::new(path))?;
-    sync_directory(rt, parent_of(path))
-}
-
-/// Makes a link with this text, and waits until its place in its directory is on the disk.
-pub fn make_link<R: Files>(rt: &R, path: &str, text: &str) -> io::Result<()> {
-    rt.symlink(text, path)?;
-    sync_directory(rt, parent_of(path))
+    let listing = bytes_to_end(alloc, &mut rt.open_dir(path)?)?;
+    names_in(alloc, listing.as_slice())
 }

@@ -1,27 +1,32 @@
 // Readers read to their end and pieces written whole, in a number of calls that is bounded.
-ghost use Rattle.std.specs.Prelude.{◌≡◌, ℕ, length, take, IfOk, IfSome, OnOk, OnErr, MatchOption};
+ghost use Rattle.std.specs.Prelude.{◌≡◌, ℕ, length, take, IfOk, IfSome, OnOk, OnErr};
 ghost use Rattle.std.specs.Io.Iter.{u64_saturate};
-ghost use Rattle.std.specs.Io.KnownBytes.{Appends, Keeps};
+ghost use Rattle.std.specs.Io.KnownBytes.{Appends};
 ghost use Rattle.kb_real.specs.Pieces.{Gives};
 
+use kb_world::Bytes;
+use std::alloc::Global;
 use std::io;
 use std::io::{ErrorKind, Read, Write};
 
-// How often a loop calls its reader or its writer before it gives up: 2^32 times.
-const MOST_CALLS: u64 = 0x1_0000_0000;
+/// How often a loop calls its reader or its writer before it gives up: 2^32 times.
+pub const MOST_CALLS: u64 = 0x1_0000_0000;
 
-// How many bytes one read asks for.
-const READ_SIZE: usize = 4096;
+/// How many bytes one read asks for.
+pub const READ_SIZE: usize = 4096;
 
-// How many bytes one read gave, 0 at the reader's end, or nothing where a signal interrupted it.
-fn read_once<R: Read>(reader: &mut R) -> io::Result<Option<u64>>
-    ensures { IfOk result (λ read. MatchOption read
-        (Keeps (R.remaining reader.old) (R.remaining reader.new))
-        (Gives (R.remaining reader.old) (R.remaining reader.new))) }
+/// The error of a loop that gave up.
+pub fn given_up() -> io::Error {
+    io::Error::from(ErrorKind::TimedOut)
+}
+
+/// How many bytes at the front of the buffer one read gave, 0 at the reader's end, or nothing where a signal
+/// interrupted it.
+pub fn read_once<R: Read>(reader: &mut R, buffer: &mut [u8; READ_SIZE]) -> io::Result<Option<usize>>
+    ensures { IfOk result (λ read. Gives (R.remaining reader.old) (R.remaining reader.new) buffer.new read) }
 {
-    let mut buffer = [0u8; READ_SIZE];
-    match reader.read(&mut buffer) {
-        Ok(count) => Ok(Some(count as u64)),
+    match reader.read(buffer) {
+        Ok(count) => Ok(Some(count)),
         Err(error) if error.kind() == ErrorKind::Interrupted => Ok(None),
         Err(error) => Err(error),
     }
@@ -31,15 +36,32 @@ fn read_once<R: Read>(reader: &mut R) -> io::Result<Option<u64>>
 pub fn length_to_end<R: Read>(reader: &mut R) -> io::Result<u64>
     ensures { IfOk result (λ len. IfSome (R.remaining reader.old) (λ bytes. len ≡ u64_saturate (length bytes))) }
 {
+    let mut buffer = [0u8; READ_SIZE];
     let mut len = 0u64;
     for _ in 0..MOST_CALLS {
-        match read_once(reader)? {
+        match read_once(reader, &mut buffer)? {
             Some(0) => return Ok(len),
-            Some(count) => len = len.saturating_add(count),
+            Some(count) => len = len.saturating_add(count as u64),
             None => {}
         }
     }
-    Err(io::Error::from(ErrorKind::TimedOut))
+    Err(given_up())
+}
+
+/// All that the reader gives up to its end. A reader that hasn't ended after 2^32 reads is an error.
+pub fn bytes_to_end<R: Read>(alloc: Global, reader: &mut R) -> io::Result<Bytes>
+    ensures { IfOk result (λ read. IfSome (R.remaining reader.old) (λ bytes. read ≡ bytes)) }
+{
+    let mut buffer = [0u8; READ_SIZE];
+    let mut bytes = Bytes::new(alloc);
+    for _ in 0..MOST_CALLS {
+        match read_once(reader, &mut buffer)? {
+            Some(0) => return Ok(bytes),
+            Some(count) => bytes.push(&buffer[..count])?,
+            None => {}
+        }
+    }
+    Err(given_up())
 }
 
 /// Writes the whole piece and flushes the writer. A write that takes nothing of what is left is an error, and so is a
@@ -60,5 +82,5 @@ pub fn write_whole<W: Write>(writer: &mut W, piece: &[u8]) -> io::Result<()>
             Err(error) => return Err(error),
         }
     }
-    Err(io::Error::from(ErrorKind::TimedOut))
+    Err(given_up())
 }

@@ -12,7 +12,11 @@ use std::os::unix::fs::PermissionsExt;
 use std::test::Fail;
 use std::{env, fs, io, process};
 
-fn make_folder(rt: HostRuntime, name: &str) -> Result<Path, Fail> {
+mod children;
+mod files;
+mod settle;
+
+pub fn make_folder(rt: HostRuntime, name: &str) -> Result<Path, Fail> {
     let temporary = env::temp_dir(&rt)?;
     let id = process::id(rt.process());
     let text = format!(in rt.alloc(); "{}/kmodboot-{id}-{name}", temporary.as_str())?;
@@ -20,13 +24,13 @@ fn make_folder(rt: HostRuntime, name: &str) -> Result<Path, Fail> {
     Ok(Path::parse(rt.alloc(), text.as_str())?)
 }
 
-fn remove_folder(rt: HostRuntime, folder: &Path) -> Result<(), Fail> {
+pub fn remove_folder(rt: HostRuntime, folder: &Path) -> Result<(), Fail> {
     fs::remove_dir_all(&rt, folder.text(rt.alloc())?.as_str())?;
     Ok(())
 }
 
 // A path below the folder.
-fn below(alloc: Global, folder: &Path, rest: &str) -> Result<Path, Fail> {
+pub fn below(alloc: Global, folder: &Path, rest: &str) -> Result<Path, Fail> {
     let text = format!(in alloc; "{folder}/{rest}")?;
     Ok(Path::parse(alloc, text.as_str())?)
 }

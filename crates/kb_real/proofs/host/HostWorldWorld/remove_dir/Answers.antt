@@ -1,0 +1,5 @@
+use Rattle.kb_real.proofs.UntoldLaws.{untold_changes}
+use Rattle.kb_real.proofs.host.HostWorldWorld.remove_dir.Goals as goal
+
+pub returns : goal.returns
+returns g c = record { gone = untold_changes _ _ _ _ c.tell.ensures.later c.tell.ensures.faults }

@@ -1,0 +1,6 @@
+-- What left the reader so far is kept.
+use Rattle.std.specs.Io.KnownBytes.{Consumes}
+use Rattle.kb_real.proofs.pieces.bytes_to_end.Given as goal
+
+abbrev pub invariant-loop : goal.invariant-loop
+invariant-loop g l = Consumes (g.R.Read.remaining l.initial.reader) (g.R.Read.remaining l.reader) l.bytes
