@@ -1,5 +1,7 @@
+pub mod Area
 pub mod Does
 pub mod Job
+pub mod Moves
 pub mod Names
 pub mod Outcome
 pub mod Path
@@ -7,6 +9,7 @@ pub mod Public
 pub mod Read
 pub mod Refusal
 pub mod Roots
+pub mod Script
 pub mod SinkState
 pub mod State
 pub mod Steps
@@ -14,3 +17,4 @@ pub mod Stop
 pub mod Store
 pub mod Tree
 pub mod TreeLaws
+pub mod View
