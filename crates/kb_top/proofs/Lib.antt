@@ -5,4 +5,3 @@ pub mod RunLaws
 pub mod ServeLaws
 pub mod Stays
 pub mod TellLaws
-pub mod WordLaws

@@ -15,7 +15,7 @@ use Rattle.kb_world.specs.declared.stop.Stop.{Stop}
 use Rattle.kb_world.specs.declared.stop.Stop.TheVariants.{Refused, Fault, NoMemory}
 use Rattle.kb_top.specs.declared.end.End.{End}
 use Rattle.kb_top.specs.declared.end.End.TheVariants as end
-use Rattle.kb_top.specs.Words.{Word}
+use Rattle.kb_words.specs.Words.{Word}
 use Rattle.kb_top.specs.Machine.{outcome_of}
 use Rattle.kb_top.specs.Serve.{Serves}
 use Rattle.kb_top.specs.Run.{Outside, Runs, EndsAs, IsGivenUp, IsDone, IsAnswerOrWant, WroteFront, Wrote, WroteNothing, err_text, with_line}

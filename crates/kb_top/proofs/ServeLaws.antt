@@ -1,43 +1,27 @@
 -- What a command needs is public, and what it does is the machine's.
-use Rattle.std.proofs.Common.{◌≡◌, ℕ, ◌+◌, Bool, true, false, cond, ◌&&◌, List, [], ◌++◌, Option, Some, None, is_some, refl, sym, ap, ◌∙◌, subst}
+use Rattle.std.proofs.Common.{◌≡◌, ℕ, true, cond, List, [], ◌++◌, Option, Some, None, is_some, refl, sym, ap, ◌∙◌, subst}
 use Rattle.std.specs.Prelude.{Result, Ok, Err}
 use Rattle.std.proofs.lemmas.List.{append-nil}
-use Rattle.kb_world.specs.Names.{is_word, is_version}
 use Rattle.kb_world.specs.Tree.{Tree, node_at}
 use Rattle.kb_world.specs.Roots.{AreApart}
 use Rattle.kb_world.specs.State.{State}
-use Rattle.kb_world.specs.Store.{is_key}
 use Rattle.kb_world.specs.Public.{public_tree, foreign_tree, intent_path}
 use Rattle.kb_world.specs.Outcome.{Outcome, refuse_if, print}
 use Rattle.kb_world.specs.Does.{Does, Decides, Answers, CameAbout}
 use Rattle.kb_world.specs.declared.roots.Roots.{Roots}
-use Rattle.kb_world.specs.declared.job.Key.{Key}
 use Rattle.kb_world.specs.declared.job.Report.{Report}
 use Rattle.kb_world.specs.declared.refusal.Refusal.{Refusal}
 use Rattle.kb_world.specs.declared.refusal.Refusal.TheVariants as refusal
+use Rattle.kb_world.specs.Read.{IsRead}
 use Rattle.kb_world.specs.declared.stop.Stop.{Stop}
 use Rattle.kb_world.specs.declared.stop.Stop.TheVariants.{Refused, Fault, NoMemory}
 use Rattle.kb_world.proofs.PublicLaws.{IsAlwaysPublic, in_dkms, in_src, shown}
 use Rattle.kb_world.proofs.DoesLaws.{cause_then, cause_other, no_cause}
-use Rattle.kb_top.specs.declared.words.Command.{Command}
-use Rattle.kb_top.specs.declared.words.Command.TheVariants as command
-use Rattle.kb_top.specs.Words.{Word, bad_name, reading, read_as, checked, command_of, known_words}
-use Rattle.kb_top.specs.Read.{IsRead}
+use Rattle.kb_words.specs.declared.command.Command.{Command}
+use Rattle.kb_words.specs.Words.{Word}
+use Rattle.kb_words.specs.Reading.{reading}
 use Rattle.kb_top.specs.Serve.{Serves}
 use Rattle.kb_top.specs.Machine.{no_roots_of_add, perform, perform_read, machine, standing_intent, by_intent, outcome_of}
-
--- a key without a bad name keeps its rules
-pub good_key : (key : Key) → bad_name (command.Add key) ≡ None → is_key key ≡ true
-good_key key e = by_case (is_word key.module) (is_version key.version) refl refl
-  where
-    by_case : (m v : Bool) → is_word key.module ≡ m → is_version key.version ≡ v → is_key key ≡ true
-    by_case true true hm hv = (λ i. hm i && hv i)
-    by_case true false hm hv =
-        let found = ap (λ b. cond b (cond (is_version key.version) None (Some key.version)) (Some key.module)) hm ∙ ap (λ b. cond b None (Some key.version)) hv in
-        let impossible : Some key.version ≡ None = sym found ∙ e in cc
-    by_case false v hm hv =
-        let found = ap (λ b. cond b (cond (is_version key.version) None (Some key.version)) (Some key.module)) hm in
-        let impossible : Some key.module ≡ None = sym found ∙ e in cc
 
 dkms_public : (roots : Roots) → AreApart roots → IsAlwaysPublic roots roots.dkms
 dkms_public roots apart = subst (IsAlwaysPublic roots) (append-nil roots.dkms) (in_dkms roots apart [] refl refl)
@@ -139,18 +123,3 @@ serves_done roots words it old mid new before after result d read e = record {
   same_roots = e.same_roots ∙ d.roots;
   cause = cause_then Fault old mid new (Ok tt) result d.cause e.cause;
 }
-
--- words that are read have no bad name
-checked_good : (it : Command) (name : Option Word) (other : Command) → checked it name ≡ Ok other → (it ≡ other) × (name ≡ None)
-checked_good it None other e = let same : Ok it ≡ Ok other = e in (cc, refl)
-checked_good it (Some n) other e = let impossible : Err (refusal.BadName n) ≡ Ok other = e in (cc, cc)
-
-pub read_good : (words : List Word) (it : Command) → reading words ≡ Ok it → bad_name it ≡ None
-unfolding reading
-read_good words it e = by_case (command_of words) refl
-  where
-    by_case : (found : Option Command) → command_of words ≡ found → bad_name it ≡ None
-    by_case None is = let impossible : Err (refusal.Usage (known_words words + 1)) ≡ Ok it = sym (ap (read_as words) is) ∙ e in cc
-    by_case (Some c) is =
-        let both = checked_good c (bad_name c) it (sym (ap (read_as words) is) ∙ e) in
-        ap bad_name (sym both.0) ∙ both.1

@@ -9,7 +9,7 @@ use Rattle.kb_world.specs.declared.roots.Roots.{Roots}
 use Rattle.kb_world.specs.declared.job.Report.{Report}
 use Rattle.kb_world.specs.declared.stop.Stop.{Stop}
 use Rattle.kb_world.specs.declared.stop.Stop.TheVariants.{Fault}
-use Rattle.kb_top.specs.Words.{Word}
+use Rattle.kb_words.specs.Words.{Word}
 use Rattle.kb_top.specs.Machine.{outcome_of}
 
 -- The world and the report after it are those of the words' outcome.

@@ -30,7 +30,7 @@ pub fn run<W: World, O: Sink, E: Sink>(
         out: Bytes::new(alloc),
         err: Bytes::new(alloc),
     };
-    let answer = serve(alloc, words, &host.roots, world, &mut report);
+    let answer = serve(alloc, words, host, world, &mut report);
     tell(alloc, answer, report, out, err)
 }
 

@@ -8,9 +8,6 @@ mod serve;
 mod tell;
 #[cfg(test)]
 mod tests;
-mod word_laws;
-mod words;
 
 pub use call::{Setting, run, start};
 pub use end::End;
-pub use word_laws::words_are_their_command_line;
