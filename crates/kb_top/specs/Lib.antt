@@ -4,4 +4,5 @@ pub mod Places
 pub mod Run
 pub mod Serve
 pub mod Setting
+pub mod Start
 pub mod Tell

@@ -4,10 +4,14 @@
 mod add;
 mod call;
 mod end;
+mod laws;
 mod serve;
+mod setting;
 mod tell;
 #[cfg(test)]
 mod tests;
 
-pub use call::{Setting, run, start};
+pub use call::{run, start};
 pub use end::End;
+pub use laws::settings_are_good_or_bad;
+pub use setting::Setting;
