@@ -1,8 +1,10 @@
 pub mod AddLaws
 pub mod DoesAdd
 pub mod PlaceLaws
+pub mod RootsLaws
 pub mod RunLaws
 pub mod ServeLaws
+pub mod SettingLaws
+pub mod StartLaws
 pub mod Stays
 pub mod TellLaws
-pub mod WordLaws

@@ -15,7 +15,7 @@ use Rattle.kb_world.specs.declared.stop.Stop.{Stop}
 use Rattle.kb_world.specs.declared.stop.Stop.TheVariants.{Refused, Fault, NoMemory}
 use Rattle.kb_top.specs.declared.end.End.{End}
 use Rattle.kb_top.specs.declared.end.End.TheVariants as end
-use Rattle.kb_top.specs.Words.{Word}
+use Rattle.kb_words.specs.Words.{Word}
 use Rattle.kb_top.specs.Machine.{outcome_of}
 use Rattle.kb_top.specs.Serve.{Serves}
 use Rattle.kb_top.specs.Run.{Outside, Runs, EndsAs, IsGivenUp, IsDone, IsAnswerOrWant, WroteFront, Wrote, WroteNothing, err_text, with_line}
@@ -40,44 +40,47 @@ sinks_of outside = record { out = outside.out; err = outside.err }
 
 -- an outcome whose texts are written ends as it has to
 finished : (roots : Roots) (store : Tree) (outcome : Outcome) (due : Option Refusal) (report : Report) (old new : Outside) (result : End)
-    → outcome.end ≡ due → IsDone roots store outcome new.world.tree → report.out ≡ outcome.out → report.err ≡ err_text outcome
+    → outcome.end ≡ due → IsDone roots store outcome new.world.tree → new.world.ran ≡ old.world.ran ++ outcome.requests → report.out ≡ outcome.out → report.err ≡ err_text outcome
     → FinishesAs (end_for due) report (sinks_of old) (sinks_of new) result → EndsAs roots store outcome old new result
-finished roots store outcome due report old new end.Done ended tree out err f = record {
+finished roots store outcome due report old new end.Done ended tree ran out err f = record {
   ended = ended ∙ done_means due f.0;
   tree = tree;
+  ran = ran;
   out = subst (λ t. Wrote t old.out new.out) out f.1.out;
   err = subst (λ t. Wrote t old.err new.err) err f.1.err;
 }
-finished roots store outcome due report old new (end.Refused why) ended tree out err f = record {
+finished roots store outcome due report old new (end.Refused why) ended tree ran out err f = record {
   ended = ended ∙ refused_means due why f.0;
   tree = tree;
+  ran = ran;
   out = subst (λ t. Wrote t old.out new.out) out f.1.out;
   err = subst (λ t. Wrote t old.err new.err) err f.1.err;
 }
-finished roots store outcome due report old new end.SinkFault ended tree out err f = record {
+finished roots store outcome due report old new end.SinkFault ended tree ran out err f = record {
   tree = tree;
+  ran = ran;
   out = subst (λ t. WroteFront t old.out new.out) out f.out;
   err = subst (λ t. WroteFront t old.err new.err) err f.err;
   in_order = subst (λ t. Wrote t old.out new.out ⊎ WroteNothing old.err new.err) out f.in_order;
 }
-finished roots store outcome due report old new end.NoMemory ended tree out err f = record {
+finished roots store outcome due report old new end.NoMemory ended tree ran out err f = record {
   out = subst (λ t. WroteNothing old.out new.out ⊎ Wrote t old.out new.out) out f.out;
   err = f.err;
 }
-finished roots store outcome due report old new end.Fault ended tree out err f = absurd f
-finished roots store outcome due report old new end.BadRoot ended tree out err f = absurd f
-finished roots store outcome due report old new end.BadBoot ended tree out err f = absurd f
+finished roots store outcome due report old new end.Fault ended tree ran out err f = absurd f
+finished roots store outcome due report old new end.BadRoot ended tree ran out err f = absurd f
+finished roots store outcome due report old new end.BadBoot ended tree ran out err f = absurd f
 
 abbrev nothing_said : Report
 nothing_said = record { out = []; err = [] }
 
 -- what was served is told
 ends_as : (roots : Roots) (store : Tree) (outcome : Outcome) (old new : Outside) (report : Report) (answer : Result (Unit {0}) Stop) (result : End)
-    → Answers roots store outcome answer new.world.tree nothing_said report → TellsAs answer report (sinks_of old) (sinks_of new) result → EndsAs roots store outcome old new result
+    → Answers roots store outcome answer old.world new.world nothing_said report → TellsAs answer report (sinks_of old) (sinks_of new) result → EndsAs roots store outcome old new result
 ends_as roots store outcome old new report (Ok u) result came told =
-    finished roots store outcome None report old new result came.end came.tree came.out (came.err ∙ ap (with_line outcome.err) (sym came.end)) told
+    finished roots store outcome None report old new result came.end came.tree came.ran came.out (came.err ∙ ap (with_line outcome.err) (sym came.end)) told
 ends_as roots store outcome old new report (Err (Refused why)) result came told =
-    finished roots store outcome (Some why) (with_message report why) old new result came.end came.tree came.out
+    finished roots store outcome (Some why) (with_message report why) old new result came.end came.tree came.ran came.out
     (ap (λ t. t ++ message_of why) came.err ∙ ap (with_line outcome.err) (sym came.end)) told
 ends_as roots store outcome old new report (Err Fault) result came told = subst (λ e. EndsAs roots store outcome old new e) (sym told.0) tt
 ends_as roots store outcome old new report (Err NoMemory) result came told =
@@ -159,7 +162,7 @@ runs roots words old_world new_world old new report answer result s t =
       );
       no_setting = tells_no_setting report old new result answer t.ends;
       counts = record { world = s.cause.later; out = t.go_on.out_later; err = t.go_on.err_later };
-      same_roots = s.same_roots;
+      lasts = s.lasts;
     }
 
 -- the same, from a report that is known to be empty
@@ -177,11 +180,11 @@ pub runs_wanting : (roots : Roots) (words : List Word) (world : State) (out old_
 runs_wanting roots words world out old_err new_err says = record {
   ends = λ tree told. record { out = inl refl; err = says.front };
   refused = λ why is. let impossible : end.NoMemory ≡ end.Refused why = is in cc;
-  damaged = λ tree told stands. refl;
+  damaged = λ tree told stands. (refl, refl);
   fault = λ is. let impossible : end.NoMemory ≡ end.Fault = is in cc;
   sink_fault = λ is. let impossible : end.NoMemory ≡ end.SinkFault = is in cc;
   complete = λ steady. (tt, record { world = steady.world; out = steady.out; err = says.steady steady.err });
   no_setting = (λ is. let impossible : end.NoMemory ≡ end.BadRoot = is in cc, λ is. let impossible : end.NoMemory ≡ end.BadBoot = is in cc);
   counts = record { world = omega arith; out = omega arith; err = says.later };
-  same_roots = refl;
+  lasts = record { roots = refl; script = refl; told = refl };
 }

@@ -1,43 +1,27 @@
 -- What a command needs is public, and what it does is the machine's.
-use Rattle.std.proofs.Common.{◌≡◌, ℕ, ◌+◌, Bool, true, false, cond, ◌&&◌, List, [], ◌++◌, Option, Some, None, is_some, refl, sym, ap, ◌∙◌, subst}
+use Rattle.std.proofs.Common.{◌≡◌, ℕ, true, cond, List, [], ◌++◌, Some, None, is_some, refl, sym, ap, ◌∙◌, subst}
 use Rattle.std.specs.Prelude.{Result, Ok, Err}
 use Rattle.std.proofs.lemmas.List.{append-nil}
-use Rattle.kb_world.specs.Names.{is_word, is_version}
 use Rattle.kb_world.specs.Tree.{Tree, node_at}
 use Rattle.kb_world.specs.Roots.{AreApart}
 use Rattle.kb_world.specs.State.{State}
-use Rattle.kb_world.specs.Store.{is_key}
 use Rattle.kb_world.specs.Public.{public_tree, foreign_tree, intent_path}
 use Rattle.kb_world.specs.Outcome.{Outcome, refuse_if, print}
 use Rattle.kb_world.specs.Does.{Does, Decides, Answers, CameAbout}
 use Rattle.kb_world.specs.declared.roots.Roots.{Roots}
-use Rattle.kb_world.specs.declared.job.Key.{Key}
 use Rattle.kb_world.specs.declared.job.Report.{Report}
 use Rattle.kb_world.specs.declared.refusal.Refusal.{Refusal}
 use Rattle.kb_world.specs.declared.refusal.Refusal.TheVariants as refusal
+use Rattle.kb_world.specs.Read.{IsRead}
 use Rattle.kb_world.specs.declared.stop.Stop.{Stop}
 use Rattle.kb_world.specs.declared.stop.Stop.TheVariants.{Refused, Fault, NoMemory}
 use Rattle.kb_world.proofs.PublicLaws.{IsAlwaysPublic, in_dkms, in_src, shown}
-use Rattle.kb_world.proofs.DoesLaws.{cause_then, cause_other, no_cause}
-use Rattle.kb_top.specs.declared.words.Command.{Command}
-use Rattle.kb_top.specs.declared.words.Command.TheVariants as command
-use Rattle.kb_top.specs.Words.{Word, bad_name, reading, read_as, checked, command_of, known_words}
-use Rattle.kb_top.specs.Read.{IsRead}
+use Rattle.kb_world.proofs.DoesLaws.{cause_then, cause_other, no_cause, lasts_then}
+use Rattle.kb_words.specs.declared.command.Command.{Command}
+use Rattle.kb_words.specs.Words.{Word}
+use Rattle.kb_words.specs.Reading.{reading}
 use Rattle.kb_top.specs.Serve.{Serves}
 use Rattle.kb_top.specs.Machine.{no_roots_of_add, perform, perform_read, machine, standing_intent, by_intent, outcome_of}
-
--- a key without a bad name keeps its rules
-pub good_key : (key : Key) → bad_name (command.Add key) ≡ None → is_key key ≡ true
-good_key key e = by_case (is_word key.module) (is_version key.version) refl refl
-  where
-    by_case : (m v : Bool) → is_word key.module ≡ m → is_version key.version ≡ v → is_key key ≡ true
-    by_case true true hm hv = (λ i. hm i && hv i)
-    by_case true false hm hv =
-        let found = ap (λ b. cond b (cond (is_version key.version) None (Some key.version)) (Some key.module)) hm ∙ ap (λ b. cond b None (Some key.version)) hv in
-        let impossible : Some key.version ≡ None = sym found ∙ e in cc
-    by_case false v hm hv =
-        let found = ap (λ b. cond b (cond (is_version key.version) None (Some key.version)) (Some key.module)) hm in
-        let impossible : Some key.module ≡ None = sym found ∙ e in cc
 
 dkms_public : (roots : Roots) → AreApart roots → IsAlwaysPublic roots roots.dkms
 dkms_public roots apart = subst (IsAlwaysPublic roots) (append-nil roots.dkms) (in_dkms roots apart [] refl refl)
@@ -59,21 +43,31 @@ help_printed roots text old before after out err = record {
   answers = λ tree told. record {
     end = refl;
     tree = (tree, told, record { public_part = refl; foreign_part = refl });
+    ran = sym (append-nil old.ran);
     out = out;
     err = err ∙ sym (append-nil before.err);
   };
-  same_roots = refl;
+  lasts = record { roots = refl; script = refl; told = refl };
   cause = no_cause old tt;
 }
 
 -- ---- the whole command
 
+-- what came about since a moment at which no child had run, came about since an earlier one
+answers_since : (roots : Roots) (store : Tree) (outcome : Outcome) (old mid new : State) (before after : Report) (result : Result (Unit {0}) Stop) → mid.ran ≡ old.ran
+    → Answers roots store outcome result mid new before after → Answers roots store outcome result old new before after
+answers_since roots store outcome old mid new before after (Ok u) ran a = record { end = a.end; tree = a.tree; ran = a.ran ∙ ap (λ so_far. so_far ++ outcome.requests) ran; out = a.out; err = a.err }
+answers_since roots store outcome old mid new before after (Err (Refused why)) ran a = record { end = a.end; tree = a.tree; ran = a.ran ∙ ap (λ so_far. so_far ++ outcome.requests) ran; out = a.out; err = a.err }
+answers_since roots store outcome old mid new before after (Err Fault) ran a = tt
+answers_since roots store outcome old mid new before after (Err NoMemory) ran a = tt
+
 -- the outcome of a refusal that comes before all else
-came_at_once : (roots : Roots) (why : Refusal) (tree : Tree) (now : Option Tree) (report : Report) → now ≡ Some tree
-    → CameAbout roots (public_tree roots tree) (refuse_if (Some why) (public_tree roots tree) (foreign_tree roots tree)) (Some why) now report report
-came_at_once roots why tree now report told = record {
+came_at_once : (roots : Roots) (why : Refusal) (tree : Tree) (old mid : State) (report : Report) → mid.tree ≡ Some tree → mid.ran ≡ old.ran
+    → CameAbout roots (public_tree roots tree) (refuse_if (Some why) (public_tree roots tree) (foreign_tree roots tree)) (Some why) old mid report report
+came_at_once roots why tree old mid report told ran = record {
   end = refl;
   tree = (tree, told, record { public_part = refl; foreign_part = refl });
+  ran = ran ∙ sym (append-nil old.ran);
   out = sym (append-nil report.out);
   err = sym (append-nil report.err);
 }
@@ -97,32 +91,32 @@ pub serves_damaged : (roots : Roots) (words : List Word) (old mid : State) (repo
     → Serves roots words old mid report report (Err stop)
 serves_damaged roots words old mid report (Refused why) d = record {
   answers = λ tree told.
-      let P : Outcome → Type 0 = λ outcome. CameAbout roots (public_tree roots tree) outcome (Some why) mid.tree report report in
-      subst P (sym (outcome_damaged roots words tree why (d.agrees tree told))) (came_at_once roots why tree mid.tree report (d.tree ∙ told));
-  damaged = λ tree told stands. d.tree;
-  same_roots = d.roots;
+      let P : Outcome → Type 0 = λ outcome. CameAbout roots (public_tree roots tree) outcome (Some why) old mid report report in
+      subst P (sym (outcome_damaged roots words tree why (d.agrees tree told))) (came_at_once roots why tree old mid report (d.tree ∙ told) d.ran_none.ran);
+  damaged = λ tree told stands. (d.tree, d.ran_none.ran);
+  lasts = d.ran_none.lasts;
   cause = d.cause;
 }
-serves_damaged roots words old mid report Fault d = record { answers = λ tree told. tt; damaged = λ tree told stands. d.tree; same_roots = d.roots; cause = d.cause }
-serves_damaged roots words old mid report NoMemory d = record { answers = λ tree told. tt; damaged = λ tree told stands. d.tree; same_roots = d.roots; cause = d.cause }
+serves_damaged roots words old mid report Fault d = record { answers = λ tree told. tt; damaged = λ tree told stands. (d.tree, d.ran_none.ran); lasts = d.ran_none.lasts; cause = d.cause }
+serves_damaged roots words old mid report NoMemory d = record { answers = λ tree told. tt; damaged = λ tree told stands. (d.tree, d.ran_none.ran); lasts = d.ran_none.lasts; cause = d.cause }
 
 -- the words are refused
 pub serves_unread : (roots : Roots) (words : List Word) (old mid : State) (report : Report) (stop : Stop) → Decides (standing_intent roots) {T = Unit {0}} old mid (Ok tt)
     → IsRead {T = Command} (Err stop) (reading words) → Serves roots words old mid report report (Err stop)
 serves_unread roots words old mid report (Refused why) d read = record {
   answers = λ tree told.
-      let P : Outcome → Type 0 = λ outcome. CameAbout roots (public_tree roots tree) outcome (Some why) mid.tree report report in
+      let P : Outcome → Type 0 = λ outcome. CameAbout roots (public_tree roots tree) outcome (Some why) old mid report report in
       let is = outcome_undamaged roots words tree (d.agrees tree told) ∙ ap (λ r. perform_read roots r (public_tree roots tree) (foreign_tree roots tree)) read in
-      subst P (sym is) (came_at_once roots why tree mid.tree report (d.tree ∙ told));
+      subst P (sym is) (came_at_once roots why tree old mid report (d.tree ∙ told) d.ran_none.ran);
   damaged = λ tree told stands. absurd (intent_absent roots tree (d.agrees tree told) stands);
-  same_roots = d.roots;
+  lasts = d.ran_none.lasts;
   cause = cause_other {T = Unit {0}} {U = Unit {0}} old mid (Ok tt) (Err (Refused why)) d.cause (λ failed. let impossible : Err (Refused why) ≡ Err Fault = failed in cc);
 }
 serves_unread roots words old mid report Fault d read = absurd read
 serves_unread roots words old mid report NoMemory d read = record {
   answers = λ tree told. tt;
   damaged = λ tree told stands. absurd (intent_absent roots tree (d.agrees tree told) stands);
-  same_roots = d.roots;
+  lasts = d.ran_none.lasts;
   cause = cause_other {T = Unit {0}} {U = Unit {0}} old mid (Ok tt) (Err NoMemory) d.cause (λ failed. let impossible : Err NoMemory ≡ Err Fault = failed in cc);
 }
 
@@ -132,25 +126,10 @@ pub serves_done : (roots : Roots) (words : List Word) (it : Command) (old mid ne
     → Serves roots words old new before after result
 serves_done roots words it old mid new before after result d read e = record {
   answers = λ tree told.
-      let P : Outcome → Type 0 = λ outcome. Answers roots (public_tree roots tree) outcome result new.tree before after in
+      let P : Outcome → Type 0 = λ outcome. Answers roots (public_tree roots tree) outcome result old new before after in
       let is = outcome_undamaged roots words tree (d.agrees tree told) ∙ ap (λ r. perform_read roots r (public_tree roots tree) (foreign_tree roots tree)) read in
-      subst P (sym is) (e.answers tree (d.tree ∙ told));
+      subst P (sym is) (answers_since roots (public_tree roots tree) (perform roots it (public_tree roots tree) (foreign_tree roots tree)) old mid new before after result d.ran_none.ran (e.answers tree (d.tree ∙ told)));
   damaged = λ tree told stands. absurd (intent_absent roots tree (d.agrees tree told) stands);
-  same_roots = e.same_roots ∙ d.roots;
+  lasts = lasts_then old mid new d.ran_none.lasts e.lasts;
   cause = cause_then Fault old mid new (Ok tt) result d.cause e.cause;
 }
-
--- words that are read have no bad name
-checked_good : (it : Command) (name : Option Word) (other : Command) → checked it name ≡ Ok other → (it ≡ other) × (name ≡ None)
-checked_good it None other e = let same : Ok it ≡ Ok other = e in (cc, refl)
-checked_good it (Some n) other e = let impossible : Err (refusal.BadName n) ≡ Ok other = e in (cc, cc)
-
-pub read_good : (words : List Word) (it : Command) → reading words ≡ Ok it → bad_name it ≡ None
-unfolding reading
-read_good words it e = by_case (command_of words) refl
-  where
-    by_case : (found : Option Command) → command_of words ≡ found → bad_name it ≡ None
-    by_case None is = let impossible : Err (refusal.Usage (known_words words + 1)) ≡ Ok it = sym (ap (read_as words) is) ∙ e in cc
-    by_case (Some c) is =
-        let both = checked_good c (bad_name c) it (sym (ap (read_as words) is) ∙ e) in
-        ap bad_name (sym both.0) ∙ both.1

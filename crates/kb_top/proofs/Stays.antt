@@ -8,9 +8,10 @@ use Rattle.kb_world.specs.Outcome.{Outcome, Action, refuse_if, unless, transacti
 use Rattle.kb_world.specs.declared.roots.Roots.{Roots}
 use Rattle.kb_world.specs.declared.refusal.Refusal.{Refusal}
 use Rattle.kb_world.proofs.DoesLaws.{unless_refused, unless_passed}
-use Rattle.kb_top.specs.declared.words.Command.{Command}
-use Rattle.kb_top.specs.declared.words.Command.TheVariants as command
-use Rattle.kb_top.specs.Words.{Word, reading}
+use Rattle.kb_words.specs.declared.command.Command.{Command}
+use Rattle.kb_words.specs.declared.command.Command.TheVariants as command
+use Rattle.kb_words.specs.Words.{Word}
+use Rattle.kb_words.specs.Reading.{reading}
 use Rattle.kb_top.specs.Add.{add, add_refusal, added_line}
 use Rattle.kb_top.specs.Machine.{no_roots_of_add, perform, perform_read, standing_intent, by_intent, outcome_of}
 

@@ -1,9 +1,8 @@
 pub mod Add
 pub mod Machine
 pub mod Places
-pub mod Read
 pub mod Run
 pub mod Serve
 pub mod Setting
+pub mod Start
 pub mod Tell
-pub mod Words

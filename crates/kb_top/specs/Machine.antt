@@ -6,9 +6,10 @@ use Rattle.kb_world.specs.Outcome.{Outcome, Action, refuse_if, unless, print, �
 use Rattle.kb_world.specs.declared.roots.Roots.{Roots}
 use Rattle.kb_world.specs.declared.refusal.Refusal.{Refusal}
 use Rattle.kb_world.specs.declared.refusal.Refusal.TheVariants as refusal
-use Rattle.kb_top.specs.declared.words.Command.{Command}
-use Rattle.kb_top.specs.declared.words.Command.TheVariants as command
-use Rattle.kb_top.specs.Words.{Word, reading}
+use Rattle.kb_words.specs.declared.command.Command.{Command}
+use Rattle.kb_words.specs.declared.command.Command.TheVariants as command
+use Rattle.kb_words.specs.Words.{Word}
+use Rattle.kb_words.specs.Reading.{reading}
 use Rattle.kb_top.specs.Add.{add, no_root, ◌or◌}
 
 unfoldable pub help_text : List ℕ

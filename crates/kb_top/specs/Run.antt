@@ -3,7 +3,7 @@ use Rattle.std.specs.Prelude.{◌≡◌, ◌⊎◌, ℕ, ◌≤◌, List, ◌++�
 use Rattle.std.specs.Option.{ForSome}
 use Rattle.kb_world.specs.Tree.{Tree, node_at}
 use Rattle.kb_world.specs.Public.{public_tree, intent_path}
-use Rattle.kb_world.specs.State.{State, Rose}
+use Rattle.kb_world.specs.State.{State, Rose, Lasts}
 use Rattle.kb_world.specs.SinkState.{SinkState, grown}
 use Rattle.kb_world.specs.Refusal.{message_of, number_of, fault_line, no_memory_line}
 use Rattle.kb_world.specs.Outcome.{Outcome, last_of}
@@ -12,7 +12,7 @@ use Rattle.kb_world.specs.declared.roots.Roots.{Roots}
 use Rattle.kb_world.specs.declared.refusal.Refusal.{Refusal}
 use Rattle.kb_top.specs.declared.end.End.{End}
 use Rattle.kb_top.specs.declared.end.End.TheVariants as end
-use Rattle.kb_top.specs.Words.{Word}
+use Rattle.kb_words.specs.Words.{Word}
 use Rattle.kb_top.specs.Machine.{outcome_of}
 
 -- the exit status
@@ -53,17 +53,19 @@ WroteNothing old new = new.written ≡ old.written
 abbrev pub IsDone : Roots → Tree → Outcome → Option Tree → Type 0
 IsDone roots store outcome now = (tree : Tree) × (now ≡ Some tree) × IsTreeOf roots (last_of store outcome.after) outcome.foreign tree
 
--- The command's answer: the machine's end, its store, and exactly its texts.
+-- The command's answer: the machine's end, its store, exactly its children, and exactly its texts.
 pub record IsAnswered (roots : Roots) (store : Tree) (outcome : Outcome) (due : Option Refusal) (old new : Outside) : Type 0 where
   pub ended : outcome.end ≡ due
   pub tree : IsDone roots store outcome new.world.tree
+  pub ran : new.world.ran ≡ old.world.ran ++ outcome.requests
   pub out : Wrote outcome.out old.out new.out
   pub err : Wrote (err_text outcome) old.err new.err
 
--- A sink failed: the store is the machine's, and of its texts a front was written, the one for standard output whole
+-- A sink failed: the store and the children are the machine's, and of its texts a front was written, the one for standard output whole
 -- before the other was begun.
 pub record IsCutShort (roots : Roots) (store : Tree) (outcome : Outcome) (old new : Outside) : Type 0 where
   pub tree : IsDone roots store outcome new.world.tree
+  pub ran : new.world.ran ≡ old.world.ran ++ outcome.requests
   pub out : WroteFront outcome.out old.out new.out
   pub err : WroteFront (err_text outcome) old.err new.err
   pub in_order : Wrote outcome.out old.out new.out ⊎ WroteNothing old.err new.err
@@ -115,8 +117,8 @@ pub record Runs (roots : Roots) (words : List Word) (old new : Outside) (result 
   pub ends : ForSome old.world.tree (λ tree. EndsAs roots (public_tree roots tree) (outcome_of roots words tree) old new result)
   -- a refusal leaves the public tree as it was
   pub refused : (why : Refusal) → result ≡ end.Refused why → ForSome old.world.tree (λ tree. ForSome new.world.tree (λ now. public_tree roots now ≡ public_tree roots tree))
-  -- where anything stands in the place of a journal, nothing is changed
-  pub damaged : ForSome old.world.tree (λ tree. is_some (node_at tree (intent_path roots)) ≡ true → new.world.tree ≡ old.world.tree)
+  -- where anything stands in the place of a journal, nothing is changed and no child is run
+  pub damaged : ForSome old.world.tree (λ tree. is_some (node_at tree (intent_path roots)) ≡ true → (new.world.tree ≡ old.world.tree) × (new.world.ran ≡ old.world.ran))
   -- it ends with a fault only where the outside's count rose, and says only the fixed line then
   pub fault : result ≡ end.Fault → IsFaulted old new
   -- and with a sink's fault only where a sink's count rose
@@ -126,4 +128,5 @@ pub record Runs (roots : Roots) (words : List Word) (old new : Outside) (result 
   -- the setting is none of its concern
   pub no_setting : (result ≡ end.BadRoot → ⊥) × (result ≡ end.BadBoot → ⊥)
   pub counts : CountsStay old new
-  pub same_roots : new.world.roots ≡ old.world.roots
+  -- the world's roots, its script and whether it tells its tree stay
+  pub lasts : Lasts old.world new.world

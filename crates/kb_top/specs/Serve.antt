@@ -3,19 +3,19 @@ use Rattle.std.specs.Prelude.{◌≡◌, List, Result, true, is_some}
 use Rattle.std.specs.Option.{ForSome}
 use Rattle.kb_world.specs.Tree.{node_at}
 use Rattle.kb_world.specs.Public.{intent_path, public_tree}
-use Rattle.kb_world.specs.State.{State, HasCause}
+use Rattle.kb_world.specs.State.{State, HasCause, Lasts}
 use Rattle.kb_world.specs.Does.{Answers}
 use Rattle.kb_world.specs.declared.roots.Roots.{Roots}
 use Rattle.kb_world.specs.declared.job.Report.{Report}
 use Rattle.kb_world.specs.declared.stop.Stop.{Stop}
 use Rattle.kb_world.specs.declared.stop.Stop.TheVariants.{Fault}
-use Rattle.kb_top.specs.Words.{Word}
+use Rattle.kb_words.specs.Words.{Word}
 use Rattle.kb_top.specs.Machine.{outcome_of}
 
 -- The world and the report after it are those of the words' outcome.
 pub record Serves (roots : Roots) (words : List Word) (old new : State) (before after : Report) (result : Result (Unit {0}) Stop) : Type 0 where
-  pub answers : ForSome old.tree (λ tree. Answers roots (public_tree roots tree) (outcome_of roots words tree) result new.tree before after)
-  -- where anything stands in the place of a journal, nothing is changed
-  pub damaged : ForSome old.tree (λ tree. is_some (node_at tree (intent_path roots)) ≡ true → new.tree ≡ old.tree)
-  pub same_roots : new.roots ≡ old.roots
+  pub answers : ForSome old.tree (λ tree. Answers roots (public_tree roots tree) (outcome_of roots words tree) result old new before after)
+  -- where anything stands in the place of a journal, nothing is changed and no child is run
+  pub damaged : ForSome old.tree (λ tree. is_some (node_at tree (intent_path roots)) ≡ true → (new.tree ≡ old.tree) × (new.ran ≡ old.ran))
+  pub lasts : Lasts old new
   pub cause : HasCause Fault old new result

@@ -25,15 +25,6 @@ pub fn require_root<W: World>(alloc: Global, world: &mut W, path: &Path) -> Resu
     }
 }
 
-fn copy_of(key: &Key) -> Result<Key, AllocError>
-    ensures { IfOk result (λ made. made ≡ key.now) }
-{
-    Ok(Key {
-        module: key.module.clone()?,
-        version: key.version.clone()?,
-    })
-}
-
 // Refused where something stands at the version's link.
 fn require_unadded<W: World>(
     alloc: Global,
@@ -48,7 +39,7 @@ fn require_unadded<W: World>(
         Kind::Absent => Ok(()),
         Kind::Link => {
             if world.read_link(alloc, link)?.as_str() == text {
-                Err(Stop::Refused(Refusal::AlreadyAdded { key: copy_of(key)? }))
+                Err(Stop::Refused(Refusal::AlreadyAdded { key: key.clone()? }))
             } else {
                 Err(Stop::Refused(Refusal::Damaged {
                     path: link.clone()?,

@@ -1,14 +1,16 @@
 // The top call.
-ghost use Rattle.std.specs.Prelude.{◌≡◌, None, IfOk};
 ghost use Rattle.kb_world.specs.Roots.{AreApart};
 ghost use Rattle.kb_top.specs.Run.{Runs};
-ghost use Rattle.kb_top.specs.Setting.{host_for};
+ghost use Rattle.kb_top.specs.Start.{Starts};
 
 use crate::end::End;
 use crate::serve::serve;
+use crate::setting::{Setting, SettingError, host_of};
 use crate::tell::{tell, write_last};
-use kb_world::{Bytes, Host, Path, Report, Roots, Sink, Text, World, no_memory_line};
-use std::alloc::{AllocError, Global};
+use kb_world::{
+    Bytes, Host, Report, Sink, Text, World, bad_boot_line, bad_root_line, no_memory_line,
+};
+use std::alloc::Global;
 
 /// Does the command that the words are: what it has to say goes to `out` and `err`, each written once and only
 /// where there is anything, after all its work is done. Refusals come in this order: something stands where a
@@ -30,46 +32,13 @@ pub fn run<W: World, O: Sink, E: Sink>(
         out: Bytes::new(alloc),
         err: Bytes::new(alloc),
     };
-    let answer = serve(alloc, words, &host.roots, world, &mut report);
+    let answer = serve(alloc, words, host, world, &mut report);
     tell(alloc, answer, report, out, err)
 }
 
-/// What a program is told of its surroundings: the environment's `KMODBOOT_ROOT` and `KMODBOOT_BOOT`, and the
-/// running kernel's release and machine as `uname` prints them. Each is absent where it isn't set or can't be had.
-#[derive(Debug, Drop)]
-pub struct Setting {
-    pub root: Option<Text>,
-    pub boot: Option<Text>,
-    pub release: Option<Text>,
-    pub machine: Option<Text>,
-}
-
-fn copy_if_any(text: &Option<Text>) -> Result<Option<Text>, AllocError>
-    ensures { IfOk result (λ made. made ≡ text.now) }
-{
-    match text {
-        Some(text) => Ok(Some(text.clone()?)),
-        None => Ok(None),
-    }
-}
-
-// The machine that the setting tells of, with the roots below `/`.
-fn host_of(alloc: Global, setting: &Setting) -> Result<Host, AllocError>
-    ensures { IfOk result (λ host. host ≡ host_for setting.now) }
-{
-    let arch = match &setting.machine {
-        Some(machine) => machine.clone()?,
-        None => Text::of(alloc, "unknown")?,
-    };
-    Ok(Host {
-        kernel: copy_if_any(&setting.release)?,
-        arch,
-        roots: Roots::under(alloc, &Path::root(alloc))?,
-    })
-}
-
-/// The call that the program makes: `run` on the machine that the setting tells of, with the roots below `/`. Want
-/// of memory before that ends with the fixed line for it.
+/// The call that the program makes: `run` on the machine that the setting tells of. A root that isn't the text of a
+/// path, and then a boot that isn't one or is at, under or above another root, end with a fixed line, before the world
+/// is asked anything. Want of memory before `run` ends with the fixed line for it.
 pub fn start<W: World, O: Sink, E: Sink>(
     alloc: Global,
     words: &[Text],
@@ -78,13 +47,20 @@ pub fn start<W: World, O: Sink, E: Sink>(
     out: &mut O,
     err: &mut E,
 ) -> End
-    requires { (setting.now.root ≡ None) × (setting.now.boot ≡ None) }
-    ensures { Runs (host_for setting.now).roots words.now (record { world = W.state world.old; out = O.state out.old; err = E.state err.old })
+    ensures { Starts setting.now words.now (record { world = W.state world.old; out = O.state out.old; err = E.state err.old })
         (record { world = W.state world.new; out = O.state out.new; err = E.state err.new }) result }
 {
     match host_of(alloc, setting) {
         Ok(host) => run(alloc, words, &host, world, out, err),
-        Err(_) => {
+        Err(SettingError::BadRoot) => {
+            write_last(err, bad_root_line());
+            End::BadRoot
+        }
+        Err(SettingError::BadBoot) => {
+            write_last(err, bad_boot_line());
+            End::BadBoot
+        }
+        Err(SettingError::NoMemory) => {
             write_last(err, no_memory_line());
             End::NoMemory
         }

@@ -4,13 +4,14 @@
 mod add;
 mod call;
 mod end;
+mod laws;
 mod serve;
+mod setting;
 mod tell;
 #[cfg(test)]
 mod tests;
-mod word_laws;
-mod words;
 
-pub use call::{Setting, run, start};
+pub use call::{run, start};
 pub use end::End;
-pub use word_laws::words_are_their_command_line;
+pub use laws::settings_are_good_or_bad;
+pub use setting::Setting;

@@ -1,15 +1,15 @@
 // A command, from its words to its report.
-ghost use Rattle.std.specs.Prelude.{◌≡◌, None};
+ghost use Rattle.std.specs.Prelude.{◌≡◌, true};
 ghost use Rattle.kb_world.specs.Public.{intent_path};
 ghost use Rattle.kb_world.specs.Roots.{AreApart};
 ghost use Rattle.kb_world.specs.Does.{Decides, Does};
 ghost use Rattle.kb_top.specs.Machine.{standing_intent, no_roots_of_add, help_text, perform};
-ghost use Rattle.kb_top.specs.Words.{bad_name};
+ghost use Rattle.kb_words.specs.Words.{keeps_rules};
 ghost use Rattle.kb_top.specs.Serve.{Serves};
 
 use crate::add::{add, require_root};
-use crate::words::{Command, read_words};
-use kb_world::{Kind, Refusal, Report, Roots, Stop, Text, World};
+use kb_words::{Command, read_words};
+use kb_world::{Host, Kind, Refusal, Report, Roots, Stop, Text, World};
 use std::alloc::Global;
 
 #[tactic(auto, unfolding(crate::specs::Machine::help_text))]
@@ -46,7 +46,7 @@ fn perform<W: World>(
     report: &mut Report,
     command: &Command,
 ) -> Result<(), Stop>
-    requires named { bad_name command.now ≡ None }
+    requires named { keeps_rules command.now ≡ true }
     requires apart { AreApart roots.now }
     ensures { Does roots.now (perform roots.now command.now) (W.state world.old) (W.state world.new) report.old report.new result }
 {
@@ -63,14 +63,14 @@ fn perform<W: World>(
 pub fn serve<W: World>(
     alloc: Global,
     words: &[Text],
-    roots: &Roots,
+    host: &Host,
     world: &mut W,
     report: &mut Report,
 ) -> Result<(), Stop>
-    requires { AreApart roots.now }
-    ensures { Serves roots.now words.now (W.state world.old) (W.state world.new) report.old report.new result }
+    requires { AreApart host.now.roots }
+    ensures { Serves host.now.roots words.now (W.state world.old) (W.state world.new) report.old report.new result }
 {
-    require_no_intent(alloc, world, roots)?;
-    let command = read_words(alloc, words)?;
-    perform(alloc, world, roots, report, &command)
+    require_no_intent(alloc, world, &host.roots)?;
+    let command = read_words(alloc, words, host)?;
+    perform(alloc, world, &host.roots, report, &command)
 }

@@ -150,8 +150,13 @@ fn link_at<'a>(alloc: Global, world: &'a MemoryWorld, path: &str) -> Result<Opti
 }
 
 // What is done to a world stands in functions that borrow it: a test that owns it takes minutes to prove.
-fn adds_once(rt: &impl Abort, alloc: Global, world: &mut MemoryWorld) -> Result<(), Fail> {
-    let added = answer_to(alloc, world, &ADD_HELLO)?;
+fn adds_once(
+    rt: &impl Abort,
+    alloc: Global,
+    world: &mut MemoryWorld,
+    words: &[&str],
+) -> Result<(), Fail> {
+    let added = answer_to(alloc, world, words)?;
     assert!(rt; added.status == 0);
     assert!(rt; added.out.as_str() == "hello/1.0: added\n");
     assert!(rt; added.err.is_empty());
@@ -167,18 +172,25 @@ fn is_linked(alloc: Global, world: &MemoryWorld) -> Result<bool, Fail> {
     Ok(link_at(alloc, world, LINK)?.unwrap_or("none") == "/usr/src/hello-1.0")
 }
 
+fn adds(rt: &impl Abort, alloc: Global, words: &[&str]) -> Result<(), Fail> {
+    let mut world = plain_world(rt, alloc)?;
+    adds_once(rt, alloc, &mut world, words)?;
+    assert!(rt; is_linked(alloc, &world)?);
+    Ok(())
+}
+
 #[test]
 fn adds_a_package(rt: HostRuntime) -> Result<(), Fail> {
-    let mut world = plain_world(&rt, rt.alloc())?;
-    adds_once(&rt, rt.alloc(), &mut world)?;
-    assert!(rt; is_linked(rt.alloc(), &world)?);
-    Ok(())
+    let alloc = rt.alloc();
+    adds(&rt, alloc, &ADD_HELLO)?;
+    adds(&rt, alloc, &["dkms", "add", "-m", "hello", "-v", "1.0"])?;
+    adds(&rt, alloc, &["dkms", "add", "-v", "1.0", "-m", "hello"])
 }
 
 // Words over the plain world, and their answer.
 struct Words(&'static [&'static str], u8, &'static str, &'static str);
 
-const WORDS: [Words; 14] = [
+const WORDS: [Words; 18] = [
     Words(
         &["help"],
         0,
@@ -224,6 +236,30 @@ const WORDS: [Words; 14] = [
         1,
         "",
         "kmodboot: usage error at word 4\n",
+    ),
+    Words(
+        &["dkms", "add", "-m", "hello"],
+        1,
+        "",
+        "kmodboot: usage error at word 5\n",
+    ),
+    Words(
+        &["dkms", "add", "-m", "hello", "-m", "hello"],
+        1,
+        "",
+        "kmodboot: usage error at word 5\n",
+    ),
+    Words(
+        &["dkms", "mktarball"],
+        26,
+        "",
+        "kmodboot: archives are not supported: mktarball\n",
+    ),
+    Words(
+        &["dkms", "mktarball", "hello/1.0"],
+        26,
+        "",
+        "kmodboot: archives are not supported: mktarball\n",
     ),
     Words(
         &["dkms", "add", "hello/.0"],

@@ -6,6 +6,7 @@ pub mod Names
 pub mod Outcome
 pub mod Path
 pub mod Public
+pub mod Read
 pub mod Refusal
 pub mod Roots
 pub mod Script

@@ -3,9 +3,9 @@ use Rattle.std.proofs.Common.{◌++◌, ap, sym, refl, ◌∙◌}
 use Rattle.std.proofs.lemmas.Result.{err_from_is_err_and}
 use Rattle.kb_top.specs.Add.{add}
 use Rattle.kb_top.specs.Machine.{no_roots_of_add, help_text}
-use Rattle.kb_top.specs.Words.{bad_name}
+use Rattle.kb_words.specs.Words.{keeps_rules}
 use Rattle.kb_world.proofs.DoesLaws.{does_refused, does_passed}
-use Rattle.kb_top.proofs.ServeLaws.{good_key, roots_shown, help_printed}
+use Rattle.kb_top.proofs.ServeLaws.{roots_shown, help_printed}
 use Rattle.kb_top.proofs.serve.perform.Goals as goal
 
 pub returns-in_err-require_roots_of_add-in-Add : goal.returns-in_err-require_roots_of_add-in-Add
@@ -16,7 +16,7 @@ returns-in_err-require_roots_of_add-in-Add g c =
     (roots_shown roots c.requires.apart) c.in_err-require_roots_of_add-in-Add.ensures)
 
 pub add-requires-clause-named : goal.add-requires-clause-named
-add-requires-clause-named g c = good_key c.in-Add.key (sym (ap bad_name c.in-Add.is) ∙ c.requires.named)
+add-requires-clause-named g c = sym (ap keeps_rules c.in-Add.is) ∙ c.requires.named
 
 pub returns-in_ok-push-in-Help : goal.returns-in_ok-push-in-Help
 returns-in_ok-push-in-Help g c =

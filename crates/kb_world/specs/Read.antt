@@ -1,4 +1,4 @@
--- The answer of the reader of words, beside the reading.
+-- The answer of a reader beside the reading. This project's own.
 use Rattle.std.specs.Prelude.{◌≡◌, Result, Ok, Err}
 use Rattle.kb_world.specs.declared.refusal.Refusal.{Refusal}
 use Rattle.kb_world.specs.declared.stop.Stop.{Stop}

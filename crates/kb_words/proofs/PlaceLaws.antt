@@ -1,0 +1,185 @@
+-- The walk finds the line, and the place where there is none.
+use Rattle.std.proofs.Common.{◌≡◌, ℕ, suc, ◌+◌, ◌<◌, ◌≤◌, Bool, true, false, cond, ◌&&◌, List, [], ◌∷◌, ◌++◌, length, take, drop, Option, Some, None, Result, Ok, Err, nat_lt, refl, sym, ap, ◌∙◌, subst, append_assoc, take-append-drop, take-take, one-add, ltb-true, ltb-false, inl, inr, arith}
+use Rattle.std.specs.Option.{option_or}
+use Rattle.std.specs.List.{list_all, filter_map}
+use Rattle.kb_world.specs.Names.{is_word, is_version}
+use Rattle.kb_world.specs.declared.refusal.Refusal.{Refusal}
+use Rattle.kb_world.specs.declared.refusal.Refusal.TheVariants as refusal
+use Rattle.kb_words.specs.declared.command.Command.{Command}
+use Rattle.kb_words.specs.declared.command.Command.TheVariants as command
+use Rattle.kb_words.specs.Words.{Word, Part, Package, Module, Version, module_in, version_in, if_no_word, if_no_version, first_bad, Line, ForCommand, ForArchive, IsLine, CanBegin, IsPlace, IsReading, answer_to, keeps_rules}
+use Rattle.kb_words.specs.Reading.{State, Start, after, line_from, known, read_line, reading}
+use Rattle.kb_words.proofs.WalkLaws.{line_step, known_step, line_stop, known_stop, line_end, known_end}
+use Rattle.kb_words.proofs.PartLaws.{none_some, same_some}
+use Rattle.kb_words.proofs.LineLaws.{Rest, goes_on, comes_from, ends, ended_so, completed}
+
+-- ---- the line
+
+pub line_into : (words : List Word) (state : State) (line : Line) → Rest state words line → line_from state words ≡ Some line
+line_into [] state line is = line_end state ∙ ended_so state line is
+line_into (word ∷ rest) state line is =
+    let more = goes_on state word rest line is in
+    line_step state more.0 word rest more.1 ∙ line_into rest more.0 line more.2
+
+pub line_out : (words : List Word) (state : State) (line : Line) → line_from state words ≡ Some line → Rest state words line
+line_out [] state line is = ends state line (sym (line_end state) ∙ is)
+line_out (word ∷ rest) state line is = by_case (after state word) refl (λ next. line_out rest next line)
+  where
+    by_case : (found : Option State) → after state word ≡ found → ((next : State) → line_from next rest ≡ Some line → Rest next rest line) → Rest state (word ∷ rest) line
+    by_case None e out = absurd (none_some line (sym (line_stop state word rest e) ∙ is))
+    by_case (Some next) e out = comes_from state next word rest line e (out next (sym (line_step state next word rest e) ∙ is))
+
+-- ---- the place
+
+abbrev CanGo : State → List Word → Type 0
+CanGo state first = (more : List Word) × (line : Line) × Rest state (first ++ more) line
+
+known_within : (words : List Word) (state : State) → known state words ≤ length words
+known_within [] state = let none = known_end state in omega arith
+known_within (word ∷ rest) state = by_case (after state word) refl (known_within rest)
+  where
+    by_case : (found : Option State) → after state word ≡ found → ((next : State) → known next rest ≤ length rest) → known state (word ∷ rest) ≤ length (word ∷ rest)
+    by_case None e few = let none = known_stop state word rest e in omega arith
+    by_case (Some next) e few =
+        let one = known_step state next word rest e in
+        let fewer = few next in
+        omega arith
+
+known_can : (words : List Word) (state : State) → CanGo state (take (known state words) words)
+known_can [] state = subst (λ n. CanGo state (take n [])) (sym (known_end state)) (completed state)
+known_can (word ∷ rest) state = by_case (after state word) refl (known_can rest)
+  where
+    by_case : (found : Option State) → after state word ≡ found → ((next : State) → CanGo next (take (known next rest) rest)) → CanGo state (take (known state (word ∷ rest)) (word ∷ rest))
+    by_case None e can = subst (λ n. CanGo state (take n (word ∷ rest))) (sym (known_stop state word rest e)) (completed state)
+    by_case (Some next) e can =
+        let c = can next in
+        let more : CanGo state (word ∷ take (known next rest) rest) = (c.0, c.1, comes_from state next word (take (known next rest) rest ++ c.0) c.1 e c.2) in
+        subst (λ n. CanGo state (take n (word ∷ rest))) (sym (known_step state next word rest e ∙ one-add (known next rest))) more
+
+known_no_more : (words : List Word) (state : State) → known state words < length words → CanGo state (take (suc (known state words)) words) → ⊥
+known_no_more [] state less can = omega arith
+known_no_more (word ∷ rest) state less can = by_case (after state word) refl (known_no_more rest)
+  where
+    by_case : (found : Option State) → after state word ≡ found → ((next : State) → known next rest < length rest → CanGo next (take (suc (known next rest)) rest) → ⊥) → ⊥
+    by_case None e stops =
+        let at : CanGo state (word ∷ []) = subst (λ n. CanGo state (take (suc n) (word ∷ rest))) (known_stop state word rest e) can in
+        let more = goes_on state word at.0 at.1 at.2 in
+        none_some more.0 (sym e ∙ more.1)
+    by_case (Some next) e stops =
+        let one = known_step state next word rest e in
+        let at : CanGo state (word ∷ take (suc (known next rest)) rest) = subst (λ n. CanGo state (take (suc n) (word ∷ rest))) (one ∙ one-add (known next rest)) can in
+        let more = goes_on state word (take (suc (known next rest)) rest ++ at.0) at.1 at.2 in
+        let same = same_some more.0 next (sym more.1 ∙ e) in
+        stops next (omega arith) (at.0, at.1, subst (λ s. Rest s (take (suc (known next rest)) rest ++ at.0) at.1) same more.2)
+
+shorter : (first more : List Word) → CanBegin (first ++ more) → CanBegin first
+shorter first more can = (more ++ can.0, can.1, subst (λ words. IsLine words can.1) (append_assoc first more can.0) can.2)
+
+begins_before : (words : List Word) (few many : ℕ) → few ≤ many → CanBegin (take many words) → CanBegin (take few words)
+begins_before words few many fewer can =
+    subst CanBegin (take-take few many words fewer)
+    (shorter (take few (take many words)) (drop few (take many words)) (subst CanBegin (sym (take-append-drop few (take many words))) can))
+
+place_known : (words : List Word) → IsPlace words (known Start words + 1)
+place_known words = record {
+  longest = known Start words;
+  place_is = refl;
+  within = known_within words Start;
+  begins = known_can words Start;
+  no_longer = λ n more within can. known_no_more words Start (omega arith) (begins_before words (suc (known Start words)) n (omega arith) can);
+}
+
+one_place : (words : List Word) (a b : ℕ) → IsPlace words a → IsPlace words b → a ≡ b
+one_place words a b p q = by_case (nat_lt p.longest q.longest) (nat_lt q.longest p.longest) refl refl
+  where
+    by_case : (s t : Bool) → nat_lt p.longest q.longest ≡ s → nat_lt q.longest p.longest ≡ t → a ≡ b
+    by_case true t hs ht = absurd (p.no_longer q.longest (ltb-true p.longest q.longest hs) q.within q.begins)
+    by_case false true hs ht = absurd (q.no_longer p.longest (ltb-true q.longest p.longest ht) p.within p.begins)
+    by_case false false hs ht =
+        let least = ltb-false p.longest q.longest hs in
+        let most = ltb-false q.longest p.longest ht in
+        let place_of_a = p.place_is in
+        let place_of_b = q.place_is in
+        omega arith
+
+-- ---- the reading
+
+pub related : (words : List Word) → IsReading words (reading words)
+related words = by_case (line_from Start words) refl
+  where
+    by_case : (found : Option Line) → line_from Start words ≡ found → IsReading words (read_line (known Start words + 1) found)
+    by_case None e = inr (known Start words + 1, ((λ line is. none_some line (sym e ∙ line_into words Start line is)), place_known words), refl)
+    by_case (Some line) e = inl (line, line_out words Start line e, refl)
+
+no_line : (words : List Word) → ((line : Line) → IsLine words line → ⊥) → line_from Start words ≡ None
+no_line words none = by_case (line_from Start words) refl
+  where
+    by_case : (found : Option Line) → line_from Start words ≡ found → line_from Start words ≡ None
+    by_case None e = e
+    by_case (Some line) e = absurd (none line (line_out words Start line e))
+
+pub only : (words : List Word) (answer : Result Command Refusal) → IsReading words answer → answer ≡ reading words
+only words answer (inl is) = is.2 ∙ sym (ap (read_line (known Start words + 1)) (line_into words Start is.0 is.1))
+only words answer (inr is) =
+    is.2 ∙ ap (λ n. Err (refusal.Usage n)) (one_place words is.0 (known Start words + 1) is.1.1 (place_known words))
+    ∙ sym (ap (read_line (known Start words + 1)) (no_line words is.1.0))
+
+-- ---- the names of what is read keep their rules
+
+neither : (a b : Option Word) → option_or a b ≡ None → (a ≡ None) × (b ≡ None)
+neither None b h = (refl, h)
+neither (Some x) b h = cc
+
+word_good : (name : Word) → if_no_word name ≡ None → is_word name ≡ true
+word_good name h = by_case (is_word name) refl h
+  where
+    by_case : (b : Bool) → is_word name ≡ b → cond b None (Some name) ≡ None → is_word name ≡ true
+    by_case true e h = e
+    by_case false e h = cc
+
+version_good : (name : Word) → if_no_version name ≡ None → is_version name ≡ true
+version_good name h = by_case (is_version name) refl h
+  where
+    by_case : (b : Bool) → is_version name ≡ b → cond b None (Some name) ≡ None → is_version name ≡ true
+    by_case true e h = e
+    by_case false e h = cc
+
+good_names : (parts : List Part) → first_bad parts ≡ None → (list_all is_word (filter_map module_in parts) ≡ true) × (list_all is_version (filter_map version_in parts) ≡ true)
+good_names [] h = (refl, refl)
+good_names (Package key ∷ parts) h =
+    let here = neither (option_or (if_no_word key.module) (if_no_version key.version)) (first_bad parts) h in
+    let names = neither (if_no_word key.module) (if_no_version key.version) here.0 in
+    let rest = good_names parts here.1 in
+    ((λ i. word_good key.module names.0 i && rest.0 i), (λ i. version_good key.version names.1 i && rest.1 i))
+good_names (Module name ∷ parts) h =
+    let here = neither (if_no_word name) (first_bad parts) h in
+    let rest = good_names parts here.1 in
+    ((λ i. word_good name here.0 i && rest.0 i), rest.1)
+good_names (Version name ∷ parts) h =
+    let here = neither (if_no_version name) (first_bad parts) h in
+    let rest = good_names parts here.1 in
+    (rest.0, (λ i. version_good name here.0 i && rest.1 i))
+
+alone : (a b : Bool) → (a && true) ≡ true → (b && true) ≡ true → (a && b) ≡ true
+alone true true p q = refl
+alone true false p q = q
+alone false b p q = p
+
+keeps : (words : List Word) (it : Command) → IsLine words (ForCommand it None) → keeps_rules it ≡ true
+keeps words command.Help is = refl
+keeps words (command.Add key) is =
+    let good = good_names is.1 (sym is.4) in
+    let names = is.3 in
+    alone (is_word key.module) (is_version key.version) (sym (ap (list_all is_word) names.module_once) ∙ good.0) (sym (ap (list_all is_version) names.version_once) ∙ good.1)
+
+pub named : (words : List Word) (it : Command) → reading words ≡ Ok it → keeps_rules it ≡ true
+named words it is = by_case (line_from Start words) refl is
+  where
+    by_line : (line : Line) → IsLine words line → answer_to line ≡ Ok it → keeps_rules it ≡ true
+    by_line (ForCommand other None) line e = let same : other ≡ it = cc in ap keeps_rules (sym same) ∙ keeps words other line
+    by_line (ForCommand other (Some name)) line e = cc
+    by_line (ForArchive action) line e = cc
+
+    by_case : (found : Option Line) → line_from Start words ≡ found → read_line (known Start words + 1) found ≡ Ok it → keeps_rules it ≡ true
+    by_case None e is = cc
+    by_case (Some line) e is = by_line line (line_out words Start line e) is

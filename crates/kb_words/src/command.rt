@@ -1,0 +1,10 @@
+// What words can ask for.
+
+use kb_world::Key;
+
+/// A command that words can be.
+#[derive(Debug, Drop)]
+pub enum Command {
+    Help,
+    Add { key: Key },
+}

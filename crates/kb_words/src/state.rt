@@ -1,0 +1,114 @@
+// Where in a command line the words read so far end.
+ghost use Rattle.std.specs.Prelude.{◌≡◌, option_map};
+ghost use Rattle.kb_world.specs.Read.{IsRead};
+ghost use Rattle.kb_world.specs.declared.stop.Stop.TheVariants as stop;
+ghost use Rattle.kb_world.specs.declared.refusal.Refusal.TheVariants as refusal;
+ghost use Rattle.kb_words.specs.Words.{is_archive};
+ghost use Rattle.kb_words.specs.Reading as spec;
+ghost use Rattle.kb_words.specs.Views.{view_seen, view_state};
+
+use crate::command::Command;
+use crate::parts::Seen;
+use kb_world::{Key, Refusal, Stop, Text};
+use std::alloc::Global;
+
+/// Where the words read so far end.
+#[derive(Clone, Copy, Debug)]
+pub enum State<'a> {
+    Start,
+    Help,
+    Dkms,
+    /// Behind one of dkms's actions on archives.
+    Archive(&'a str),
+    Add(Seen<'a>),
+}
+
+fn is_archive(word: &str) -> bool
+    ensures { result ≡ is_archive word.now }
+{
+    word == "mktarball"
+        || word == "ldtarball"
+        || word == "mkrpm"
+        || word == "mkdeb"
+        || word == "mkbmdeb"
+        || word == "mkdsc"
+        || word == "mkdriverdisk"
+        || word == "mkkmp"
+}
+
+fn after_start(word: &str) -> Option<State<'_>>
+    ensures { option_map view_state result ≡ spec.after_start word.now }
+{
+    if word == "help" {
+        Some(State::Help)
+    } else if word == "dkms" {
+        Some(State::Dkms)
+    } else {
+        None
+    }
+}
+
+fn after_dkms(word: &str) -> Option<State<'_>>
+    ensures { option_map view_state result ≡ spec.after_dkms word.now }
+{
+    if word == "add" {
+        Some(State::Add(Seen::nothing()))
+    } else if is_archive(word) {
+        Some(State::Archive(word))
+    } else {
+        None
+    }
+}
+
+/// No command line: refused with this place.
+pub fn usage(place: u64) -> Stop
+    ensures { result ≡ stop.Refused (refusal.Usage place) }
+{
+    Stop::Refused(Refusal::Usage { place })
+}
+
+// `dkms add` and its parts.
+fn end_of_add(alloc: Global, seen: Seen<'_>, place: u64) -> Result<Command, Stop>
+    ensures { IsRead result (spec.read_line place (spec.ended_add (view_seen seen.entry))) }
+{
+    let Some((module, version)) = seen.package() else {
+        return Err(usage(place));
+    };
+    if let Some(name) = seen.bad {
+        let name = Text::of(alloc, name)?;
+        return Err(Stop::Refused(Refusal::BadName { name }));
+    }
+    let module = Text::of(alloc, module)?;
+    let version = Text::of(alloc, version)?;
+    let key = Key { module, version };
+    Ok(Command::Add { key })
+}
+
+impl<'a> State<'a> {
+    /// With one word more, where some command line goes on so.
+    pub fn after(self, word: &'a str) -> Option<Self>
+        ensures { option_map view_state result ≡ spec.after (view_state self.entry) word.now }
+    {
+        match self {
+            State::Start => after_start(word),
+            State::Help => None,
+            State::Dkms => after_dkms(word),
+            State::Archive(_) => Some(self),
+            State::Add(seen) => Some(State::Add(seen.after(word)?)),
+        }
+    }
+
+    /// The command, where the words end here. Refused with this place where no command line does.
+    pub fn end(self, alloc: Global, place: u64) -> Result<Command, Stop>
+        ensures { IsRead result (spec.read_line place (spec.ended (view_state self.entry))) }
+    {
+        match self {
+            State::Start | State::Dkms => Err(usage(place)),
+            State::Help => Ok(Command::Help),
+            State::Archive(word) => Err(Stop::Refused(Refusal::Archive {
+                word: Text::of(alloc, word)?,
+            })),
+            State::Add(seen) => end_of_add(alloc, seen, place),
+        }
+    }
+}
