@@ -1,5 +1,5 @@
 -- What a child program answers and does: a function of script, request and view. This project's own.
-use Rattle.std.specs.Prelude.{Bool, ◌&&◌, not, cond, List, [], Option, Some, None, bytes_eq, nat_eq}
+use Rattle.std.specs.Prelude.{Bool, ◌&&◌, not, cond, List, [], Option, Some, None, bytes_eq, nat_eq, map}
 use Rattle.std.specs.List.{list_all, find, fold}
 use Rattle.std.specs.Cmp.Lexicographic.{pointwise}
 use Rattle.kb_world.specs.Path.{Path, parent}
@@ -7,6 +7,7 @@ use Rattle.kb_world.specs.Tree.{Tree, node_at, is_dir, is_file, edited}
 use Rattle.kb_world.specs.Area.{holds}
 use Rattle.kb_world.specs.View.{view_of}
 use Rattle.kb_world.specs.declared.roots.Roots.{Roots}
+use Rattle.kb_world.specs.declared.tree.Edit.{Edit}
 use Rattle.kb_world.specs.declared.tree.Node.{Node}
 use Rattle.kb_world.specs.declared.tree.Node.TheVariants as node
 use Rattle.kb_world.specs.declared.child.Area.{Area}
@@ -38,11 +39,6 @@ answer_of None = record { reply = record { code = 127; out = []; err = [] }; eff
 abbrev pub answer : Script → Request → Tree → Answer
 answer script request view = answer_of (find (fits request view) script)
 
--- what comes to stand at a path, if anything
-pub record Edit : Type 0 where
-  pub path : Path
-  pub at : Option Node
-
 abbrev pub copied : Option Node → Path → Option Edit
 copied (Some (node.File bytes exec)) to = Some (record { path = to; at = Some (node.File bytes exec) })
 copied (Some node.Dir) to = None
@@ -64,9 +60,13 @@ abbrev pub with_edit : Area → Tree → Option Edit → Tree
 with_edit area tree None = tree
 with_edit area tree (Some edit) = cond (can_edit area tree edit.path) (edited edit.path edit.at tree) tree
 
--- the tree after effects, in their order
+-- the tree after edits, in their order
+abbrev pub after_edits : Area → Tree → List (Option Edit) → Tree
+after_edits area = fold (with_edit area)
+
+-- The tree after effects, in their order. What a copy takes is what the child saw before it did anything.
 abbrev pub after_effects : Area → Tree → Tree → List Effect → Tree
-after_effects area view = fold (λ tree effect. with_edit area tree (edit_of view effect))
+after_effects area view tree effects = after_edits area tree (map (edit_of view) effects)
 
 -- the answer to a request over a tree, and the tree after it
 abbrev pub answer_in : Roots → Script → Request → Tree → Answer

@@ -17,6 +17,7 @@ mod stop;
 mod tests;
 mod text;
 mod tree;
+mod whose;
 mod world;
 
 pub use child::{Area, Effect, EffectRow, Reply, Request};
@@ -30,5 +31,6 @@ pub use sequence::Sequence;
 pub use sink::{Sink, SinkError};
 pub use stop::Stop;
 pub use text::{Bytes, Text, Texts};
-pub use tree::{Kind, Node};
+pub use tree::{Edit, Kind, Node};
+pub use whose::{is_index, is_private};
 pub use world::{World, WorldError};

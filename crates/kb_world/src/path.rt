@@ -1,12 +1,14 @@
 // Paths of the tree, as lists of names from the root.
-ghost use Rattle.std.specs.Prelude.{◌≡◌, ◌≢◌, ◌==◌, List, ℕ, [], ◌∷◌, IfOk, IsErrOf, IsTrue, MatchOption, Some, map, refl, nat_eq};
+ghost use Rattle.std.specs.Prelude.{◌≡◌, ◌≢◌, ◌==◌, List, ℕ, [], ◌∷◌, IfOk, IsErrOf, IsTrue, MatchOption, Some, true, false, drop, length, map, refl, nat_eq};
 ghost use Rattle.std.specs.List.{slice_split};
 ghost use Rattle.std.specs.Str.{byte};
 ghost use Rattle.std.specs.Ordering.{nat_cmp};
 ghost use Rattle.std.specs.Cmp as laws_of;
 ghost use Rattle.std.specs.Cmp.Lexicographic.{pointwise, lists_total, lists_equiv, lists_ties, lists_po, nat_list_cmp_total, nat_list_eq_equiv, texts_ties};
 ghost use Rattle.kb_world.specs.Names.{is_name};
-ghost use Rattle.kb_world.specs.Path.{IsPath, path_text, child, is_under, path_cmp};
+ghost use Rattle.std.specs.Option.{option_copied};
+ghost use Rattle.kb_world.specs.Path.{IsPath, path_text, child, parent, is_under, path_cmp};
+ghost use Rattle.kb_world.specs.Tree.{name_in};
 ghost use Rattle.kb_world.specs.declared.path.PathError.TheVariants.{NotAPath, NoMemory};
 
 use crate::names::is_name;
@@ -135,6 +137,25 @@ impl Path {
         Ok(made)
     }
 
+    /// The path of the directory that the path stands in; the root's is the root.
+    pub fn parent(&self) -> Result<Path, AllocError>
+        ensures { IfOk result (λ made. made ≡ parent self.now) }
+    {
+        let mut made = self.clone()?;
+        made.names.pop();
+        Ok(made)
+    }
+
+    /// The name of the directory's entry that the path is the path of, if it is one's.
+    pub fn name_in(&self, directory: &Path) -> Option<&Text>
+        ensures { option_copied result ≡ name_in directory.now self.now }
+    {
+        match self.below(directory) {
+            Some([name]) => Some(name),
+            _ => None,
+        }
+    }
+
     /// The names from the root.
     pub fn names(&self) -> &[Text]
         ensures all { result.now ≡ self.now }
@@ -148,6 +169,18 @@ impl Path {
         ensures { result ≡ is_under self.now other.now }
     {
         self.names.starts_with(&other.names)
+    }
+
+    /// The names behind the directory's, where the path is the directory or lies below it.
+    pub fn below(&self, directory: &Path) -> Option<&[Text]>
+        ensures { MatchOption result (is_under self.now directory.now ≡ false)
+            (λ names. (is_under self.now directory.now ≡ true) × (names.now ≡ drop (length directory.now) self.now)) }
+    {
+        if self.is_under(directory) {
+            Some(&self.names[directory.names.len()..])
+        } else {
+            None
+        }
     }
 }
 

@@ -167,3 +167,28 @@ fn a_request_is_cloned(rt: HostRuntime) -> Result<(), Fail> {
     assert_eq!(rt; request.clone()?.program.as_str(), "depmod");
     Ok(())
 }
+
+// A path below the usual roots, and whether it is the tool's own and whether it is an index file.
+const WHOSE: [(&str, bool, bool); 9] = [
+    ("/var/lib/dkms/.intent", true, false),
+    ("/var/lib/dkms/.intent.new/x", true, false),
+    ("/var/lib/dkms/hello/1.0/build/hello.c", true, false),
+    ("/var/lib/dkms/hello/1.0/source", false, false),
+    ("/boot/.kb-plugins", true, false),
+    ("/usr/src/.kb-staged", true, false),
+    ("/lib/modules/6.1.0/modules.dep", false, true),
+    ("/lib/modules/build/modules.dep", false, false),
+    ("/lib/modules/6.1.0/kernel/modules.dep", false, false),
+];
+
+#[test]
+fn paths_are_whose_they_are(rt: HostRuntime) -> Result<(), Fail> {
+    let alloc = rt.alloc();
+    let roots = Roots::under(alloc, &Path::root(alloc))?;
+    for (text, private, index) in &WHOSE {
+        let path = Path::parse(alloc, text)?;
+        assert!(rt; is_private(&roots, &path) == *private, "{text}");
+        assert!(rt; is_index(&roots, &path) == *index, "{text}");
+    }
+    Ok(())
+}
