@@ -17,3 +17,4 @@ pub mod FieldsLaws
 pub mod ChecksLaws
 pub mod MeaningLaws
 pub mod ConfLaws
+pub mod LoadLaws

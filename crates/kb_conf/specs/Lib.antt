@@ -25,3 +25,4 @@ pub mod Fields
 pub mod Meaning
 pub mod Conf
 pub mod Read
+pub mod Load

@@ -1,8 +1,9 @@
 //! Confs, read whole.
 use super::conf::Conf;
 use super::given::Given;
+use super::load::read_for;
 use super::read::read_conf;
-use kb_world::{Refusal, Stop, Text};
+use kb_world::{Key, Stop, Text};
 use std::alloc::{AllocError, Global};
 use std::process::Abort;
 use std::test::Fail;
@@ -284,4 +285,36 @@ fn refuses_long_and_deep_patterns(rt: HostRuntime) -> Result<(), Fail> {
     let expected = "dkms.conf has a bad BUILD_EXCLUSIVE_KERNEL";
     expect_refused(&rt, alloc, long.as_str(), expected)?;
     expect_refused(&rt, alloc, deep.as_str(), expected)
+}
+
+fn key(alloc: Global, version: &str) -> Result<Key, AllocError> {
+    Ok(Key {
+        module: Text::of(alloc, "hello")?,
+        version: Text::of(alloc, version)?,
+    })
+}
+
+/// What is answered where this version of hello is asked for and the conf is of 1.1.
+fn answer_for(alloc: Global, version: &str) -> Result<String, Fail> {
+    let text = "PACKAGE_NAME=hello\nPACKAGE_VERSION=1.1\n";
+    let asked = key(alloc, version)?;
+    match read_for(
+        alloc,
+        text.as_bytes(),
+        Some(&asked),
+        &given(alloc, "6.1.0")?,
+    ) {
+        Ok(conf) => Ok(format!(in alloc; "{}", conf.key)?),
+        Err(Stop::Refused(refusal)) => Ok(format!(in alloc; "{refusal}")?),
+        Err(_) => Ok(String::from_str(alloc, "stopped")?),
+    }
+}
+
+#[test]
+fn refuses_the_conf_of_another_version(rt: HostRuntime) -> Result<(), Fail> {
+    let other = answer_for(rt.alloc(), "1.0")?;
+    assert_eq!(rt; other.as_str(), "dkms.conf is of hello/1.1");
+    let same = answer_for(rt.alloc(), "1.1")?;
+    assert_eq!(rt; same.as_str(), "hello/1.1");
+    Ok(())
 }
