@@ -3,16 +3,20 @@
 #![tactic(auto)]
 
 use kb_conf::{Assignment, Given, ReadError, read_text, without_returns};
+use kb_world::Text;
+use std::alloc::{AllocError, Global};
 use std::io::{self, Read, Write};
 
 /// What the variables stand for that a caller gives.
-const GIVEN: Given<'static> = Given {
-    kernel: "6.1.0",
-    arch: "x86_64",
-    kernel_source_dir: "/lib/modules/6.1.0/build",
-    dkms_tree: "/var/lib/dkms",
-    source_tree: "/usr/src",
-};
+fn given(alloc: Global) -> Result<Given, AllocError> {
+    Ok(Given {
+        kernel: Text::of(alloc, "6.1.0")?,
+        arch: Text::of(alloc, "x86_64")?,
+        kernel_source_dir: Text::of(alloc, "/lib/modules/6.1.0/build")?,
+        dkms_tree: Text::of(alloc, "/var/lib/dkms")?,
+        source_tree: Text::of(alloc, "/usr/src")?,
+    })
+}
 
 fn print<W: Write>(out: &mut W, assignments: &[Assignment<'_>]) -> io::Result<()> {
     for assignment in assignments {
@@ -28,7 +32,8 @@ fn main(rt: HostRuntime) -> io::Result<()> {
     let mut input = Vec::new(rt.alloc());
     rt.reader().read_to_end(&mut input)?;
     let text = without_returns(rt.alloc(), input.as_slice())?;
-    match read_text(rt.alloc(), text.as_slice(), &GIVEN) {
+    let given = given(rt.alloc())?;
+    match read_text(rt.alloc(), text.as_slice(), &given) {
         Ok(table) => print(&mut io::writer(&rt), table.assignments()),
         Err(ReadError::BadLine(line)) => println!(rt; "bad line {line}"),
         Err(ReadError::OutOfMemory) => println!(rt; "out of memory"),

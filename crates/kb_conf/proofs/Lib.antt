@@ -10,3 +10,11 @@ pub mod StepLaws
 pub mod ReadingLaws
 pub mod OneMeaning
 pub mod TextLaws
+pub mod PatternLaws
+pub mod ListLaws
+pub mod ValuesLaws
+pub mod FieldsLaws
+pub mod ChecksLaws
+pub mod MeaningLaws
+pub mod ConfLaws
+pub mod LoadLaws

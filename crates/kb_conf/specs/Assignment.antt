@@ -2,6 +2,8 @@
 use Rattle.std.specs.Prelude.{ℕ, Bool, ◌&&◌, List, [], ◌∷◌, Option, Some, None, ◌==◌, if◌then◌else◌, codes}
 use Rattle.std.specs.Option.{option_or}
 use Rattle.std.specs.Str.{bytes_eq}
+-- what the caller gives a conf: the kernel, its architecture, and three directories
+pub use Rattle.kb_conf.specs.declared.given.Given.{Given}
 
 pub record Assignment : Type 0 where
   pub name : List ℕ
@@ -16,14 +18,6 @@ unfoldable pub last_value : List Assignment → List ℕ → ℕ → Option (Lis
 last_value [] name number = None
 last_value (a ∷ later) name number =
     option_or (last_value later name number) (if is_of name number a then Some a.value else None)
-
--- what the caller gives a conf: the kernel, its architecture, and three directories
-pub record Given : Type 0 where
-  pub kernel : List ℕ
-  pub arch : List ℕ
-  pub kernel_source_dir : List ℕ
-  pub dkms_tree : List ℕ
-  pub source_tree : List ℕ
 
 -- the given fields have the number 0
 unfoldable pub given_value : Given → List ℕ → ℕ → Option (List ℕ)

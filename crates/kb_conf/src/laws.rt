@@ -3,6 +3,7 @@ ghost use Rattle.std.specs.Prelude.{◌≡◌, ℕ, List};
 ghost use Rattle.std.specs.List.{AllByRecursion};
 ghost use Rattle.kb_conf.specs.TextOf.{IsTextAssignment, IsTextGiven};
 ghost use Rattle.kb_conf.specs.Assignment.{Assignment, Given};
+ghost use Rattle.kb_conf.specs.Meaning.{Means, meaning_of};
 ghost use Rattle.kb_conf.specs.Reading.{IsGood, IsBadLine};
 
 /// A text has one list of assignments, or one bad line.
@@ -19,4 +20,9 @@ pub fn one_meaning()
 pub fn assigns_text()
     ensures { (g : Given) (text : List ℕ) (assignments : List Assignment) →
         IsTextGiven g → IsGood g text assignments → AllByRecursion IsTextAssignment assignments }
+{}
+
+/// What is computed of a text is what the grammar says of it.
+pub fn meaning_is_computed()
+    ensures { (g : Given) (text : List ℕ) → Means g text (meaning_of g text) }
 {}

@@ -1,22 +1,38 @@
-//! The text of a `dkms.conf`: its grammar, and the first bad line of a text that is not in it.
+//! `dkms.conf`: its grammar, what its values say of a package, and its refusals.
 #![tactic(auto)]
 
+mod bad;
 mod bytes;
+mod checks;
+mod conf;
+mod fields;
 mod given;
 mod laws;
 mod line;
+mod load;
 mod name;
+mod path_value;
+mod pattern;
 mod piece;
 mod place;
+mod read;
 mod reading;
+mod rule;
 mod spans;
 mod table;
+mod targets;
 mod value;
+mod values;
 
+pub use conf::{Conf, Patch, Patches, Scripts, Target, Targets};
 pub use given::Given;
-pub use laws::{assigns_text, one_meaning};
+pub use laws::{assigns_text, meaning_is_computed, one_meaning};
+pub use load::load_conf;
+pub use read::read_conf;
 pub use reading::{ReadError, read_text, without_returns};
 pub use table::{Assignment, Table};
 
+#[cfg(test)]
+mod conf_tests;
 #[cfg(test)]
 mod tests;

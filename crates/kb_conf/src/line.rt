@@ -1,6 +1,5 @@
 //! Lines and the assignments in them.
 ghost use Rattle.std.specs.Prelude.{◌≡◌, IfOk, IfSome};
-ghost use Rattle.kb_conf.specs.GivenView.{view_given};
 ghost use Rattle.kb_conf.specs.Front.{plain_at};
 ghost use Rattle.kb_conf.specs.Line.{is_command, AssignmentAt, IsStep};
 ghost use Rattle.kb_conf.specs.Only.{IsOnly};
@@ -26,12 +25,12 @@ fn is_command(name: &[u8]) -> bool
 /// Reads the assignment at the front, if there is one, and says what follows it.
 fn read_assignment<'a>(
     alloc: Global,
-    given: &Given<'_>,
+    given: &Given,
     earlier: &Table<'a>,
     text: &'a [u8],
 ) -> Result<Option<(Assignment<'a>, &'a [u8])>, AllocError>
     ensures { IfOk result (λ found.
-        IsOnly (AssignmentAt (scope (view_given given.now) earlier.now) text.now)
+        IsOnly (AssignmentAt (scope given.now earlier.now) text.now)
         (assignment_view found)) }
 {
     let Some((reference, rest)) = split_reference(text) else {
@@ -84,13 +83,13 @@ fn split_plain(place: Place, text: &[u8]) -> Option<(Place, &[u8])>
 /// Reads the item at the front, if there is one that may stand here.
 pub fn read_step<'a>(
     alloc: Global,
-    given: &Given<'_>,
+    given: &Given,
     earlier: &Table<'a>,
     place: Place,
     text: &'a [u8],
 ) -> Result<Option<Step<'a>>, AllocError>
     ensures { IfOk result (λ found.
-        IsOnly (IsStep (scope (view_given given.now) earlier.now) place text.now)
+        IsOnly (IsStep (scope given.now earlier.now) place text.now)
         (step_view found)) }
 {
     if let Some((place, rest)) = split_plain(place, text) {

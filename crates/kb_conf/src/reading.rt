@@ -1,7 +1,6 @@
 //! The whole text: its assignments, or its first bad line.
 ghost use Rattle.std.specs.Prelude.{◌≡◌, ◌≤◌, ◌==◌, length, count_by, IfOk, IfErr};
 ghost use Rattle.std.specs.Str.Lossy.{utf8_valid_len};
-ghost use Rattle.kb_conf.specs.GivenView.{view_given};
 ghost use Rattle.kb_conf.specs.Refusal.{AtBadLine};
 ghost use Rattle.kb_conf.specs.Reading.{drop_returns, starts_line_end, sound_len, line_of, IsGood, IsBadLine};
 ghost use Rattle.kb_conf.specs.declared.bytes.TheConstants.{LINE_FEED};
@@ -92,13 +91,9 @@ fn bad_line(text: &[u8], rest: &[u8]) -> ReadError
 }
 
 /// Reads a text whose carriage returns before line feeds were dropped.
-pub fn read_text<'a>(
-    alloc: Global,
-    text: &'a [u8],
-    given: &Given<'_>,
-) -> Result<Table<'a>, ReadError>
-    ensures good { IfOk result (λ table. IsGood (view_given given.now) text.now table) }
-    ensures bad { IfErr result (AtBadLine (IsBadLine (view_given given.now) text.now)) }
+pub fn read_text<'a>(alloc: Global, text: &'a [u8], given: &Given) -> Result<Table<'a>, ReadError>
+    ensures good { IfOk result (λ table. IsGood given.now text.now table) }
+    ensures bad { IfErr result (AtBadLine (IsBadLine given.now text.now)) }
 {
     let sound = sound_len(text);
     let mut table = Table::new(alloc);

@@ -1,16 +1,19 @@
 use super::given::Given;
 use super::reading::{ReadError, read_text, without_returns};
-use std::alloc::Global;
+use kb_world::Text;
+use std::alloc::{AllocError, Global};
 use std::process::Abort;
 use std::test::Fail;
 
-const GIVEN: Given<'static> = Given {
-    kernel: "6.1.0",
-    arch: "x86_64",
-    kernel_source_dir: "/lib/modules/6.1.0/build",
-    dkms_tree: "/var/lib/dkms",
-    source_tree: "/usr/src",
-};
+fn given(alloc: Global) -> Result<Given, AllocError> {
+    Ok(Given {
+        kernel: Text::of(alloc, "6.1.0")?,
+        arch: Text::of(alloc, "x86_64")?,
+        kernel_source_dir: Text::of(alloc, "/lib/modules/6.1.0/build")?,
+        dkms_tree: Text::of(alloc, "/var/lib/dkms")?,
+        source_tree: Text::of(alloc, "/usr/src")?,
+    })
+}
 
 /// Reads a good text. What is expected is each assignment as `NAME[N]=VALUE|`.
 fn expect_good(
@@ -20,7 +23,7 @@ fn expect_good(
     expected: &[u8],
 ) -> Result<(), ReadError> {
     let text = without_returns(alloc, text)?;
-    let table = read_text(alloc, text.as_slice(), &GIVEN)?;
+    let table = read_text(alloc, text.as_slice(), &given(alloc)?)?;
     let mut found = Vec::new(alloc);
     for assignment in table.assignments() {
         found.extend_from_slice(assignment.name)?;
@@ -35,7 +38,7 @@ fn expect_good(
 
 fn expect_bad(rt: &impl Abort, alloc: Global, text: &[u8], line: u64) -> Result<(), ReadError> {
     let text = without_returns(alloc, text)?;
-    match read_text(alloc, text.as_slice(), &GIVEN) {
+    match read_text(alloc, text.as_slice(), &given(alloc)?) {
         Ok(_) => assert_eq!(rt; 0, line),
         Err(error) => assert_eq!(rt; error, ReadError::BadLine(line)),
     }
@@ -288,7 +291,7 @@ fn refuses_a_value_that_is_too_long(rt: HostRuntime) -> Result<(), Fail> {
 A3=\"$A2$A2\"\nA4=\"$A3$A3\"\nA5=\"$A4$A4\"\nA6=\"$A5$A5\"\nA7=\"$A6$A6\"\nA8=\"$A7$A7\"\nA9=\"$A8$A8\"\n\
 A10=\"$A9$A9\"\nA11=\"$A10$A10\"\nA12=\"$A11$A11\"\n"
             .as_slice();
-    let table = read_text(alloc, text, &GIVEN)?;
+    let table = read_text(alloc, text, &given(alloc)?)?;
     assert_eq!(rt; table.assignments().len(), 15);
     assert_eq!(rt;
         table.value(b"A12", 0).map(|value| value.len()),

@@ -1,7 +1,6 @@
 //! Values of assignments.
 ghost use Rattle.std.specs.Prelude.{◌≡◌, IfOk};
 ghost use Rattle.kb_conf.specs.Only.{IsOnly};
-ghost use Rattle.kb_conf.specs.GivenView.{view_given};
 ghost use Rattle.kb_conf.specs.Piece.{spell};
 ghost use Rattle.kb_conf.specs.Value.{scope, at_start, look_up, expand, gives, ends_item, IsShortValue};
 ghost use Rattle.kb_conf.specs.Views.{rest_view, view_reference, view_piece, mode_view, value_view};
@@ -18,12 +17,12 @@ pub const LONGEST_VALUE: usize = 65_536;
 
 /// The value of a variable, if something gave it one.
 fn look_up<'x>(
-    given: &'x Given<'_>,
+    given: &'x Given,
     earlier: &'x Table<'_>,
     reference: Reference<'_>,
 ) -> Option<&'x [u8]>
     ensures { rest_view result
-        ≡ look_up (scope (view_given given.now) earlier.now) (view_reference reference.entry) }
+        ≡ look_up (scope given.now earlier.now) (view_reference reference.entry) }
 {
     let number = reference.number.unwrap_or(0);
     match given.value(reference.name, number) {
@@ -34,13 +33,13 @@ fn look_up<'x>(
 
 /// What a variable's piece gives.
 fn expand<'x>(
-    given: &'x Given<'_>,
+    given: &'x Given,
     earlier: &'x Table<'_>,
     mode: Mode,
     reference: Reference<'_>,
     written: &'x [u8],
 ) -> &'x [u8]
-    ensures { result.now ≡ expand (scope (view_given given.now) earlier.now) (mode_view mode)
+    ensures { result.now ≡ expand (scope given.now earlier.now) (mode_view mode)
         (view_reference reference.entry) written.now }
 {
     match look_up(given, earlier, reference) {
@@ -52,7 +51,7 @@ fn expand<'x>(
 
 /// What a piece gives, as a part of what was written or as a variable's value.
 fn given_by<'x>(
-    given: &'x Given<'_>,
+    given: &'x Given,
     earlier: &'x Table<'_>,
     mode: Mode,
     piece: Piece<'x>,
@@ -60,7 +59,7 @@ fn given_by<'x>(
 ) -> &'x [u8]
     requires { written.now ≡ spell (view_piece piece) }
     ensures { result.now
-        ≡ gives (scope (view_given given.now) earlier.now) (mode_view mode) (view_piece piece.entry) }
+        ≡ gives (scope given.now earlier.now) (mode_view mode) (view_piece piece.entry) }
 {
     match piece {
         Piece::Bare(_) | Piece::Dollar | Piece::Command(_) | Piece::Backquoted(_) => written,
@@ -93,13 +92,13 @@ fn ends_item(text: &[u8]) -> bool
 /// assignment, or its value is too long: the reader stops at the piece that makes it so.
 pub fn read_value<'a>(
     alloc: Global,
-    given: &Given<'_>,
+    given: &Given,
     earlier: &Table<'_>,
     command: bool,
     text: &'a [u8],
 ) -> Result<Option<(Vec<u8>, &'a [u8])>, AllocError>
     ensures { IfOk result (λ found.
-        IsOnly (IsShortValue (scope (view_given given.now) earlier.now) (at_start command) text.now)
+        IsOnly (IsShortValue (scope given.now earlier.now) (at_start command) text.now)
         (value_view found)) }
 {
     let mut value = Vec::new(alloc);

@@ -1,7 +1,6 @@
 use Rattle.std.proofs.Common.{◌≡◌, Bool, false, List, ℕ, Option, Some, Vec, Global, sym, ap, subst}
 use Rattle.std.specs.Borrow.{Bor}
 use Rattle.kb_conf.specs.Assignment.{Assignment}
-use Rattle.kb_conf.specs.GivenView.{view_given}
 use Rattle.kb_conf.specs.Line.{AssignmentAt}
 use Rattle.kb_conf.specs.Value.{scope}
 use Rattle.kb_conf.specs.Only.{IsOnly}
@@ -11,14 +10,14 @@ use Rattle.kb_conf.proofs.AssignmentLaws.{no_name, no_equals, no_value, the_assi
 use Rattle.kb_conf.proofs.line.read_assignment.Goals as goal
 
 pub returns-in_default : goal.returns-in_default
-returns-in_default c = no_name (scope (view_given c.args.given.now) c.args.earlier.now) c.args.text.now (sym c.in_default.ensures)
+returns-in_default c = no_name (scope c.args.given.now c.args.earlier.now) c.args.text.now (sym c.in_default.ensures)
 
 pub returns-in_default-after_byte : goal.returns-in_default-after_byte
-returns-in_default-after_byte c = no_equals (scope (view_given c.args.given.now) c.args.earlier.now) c.args.text.now (view_reference c.in-Some.reference) c.in-Some.rest.now (sym c.in-Some.ensures) (sym c.in_default-after_byte.ensures)
+returns-in_default-after_byte c = no_equals (scope c.args.given.now c.args.earlier.now) c.args.text.now (view_reference c.in-Some.reference) c.in-Some.rest.now (sym c.in-Some.ensures) (sym c.in_default-after_byte.ensures)
 
 pub returns-in_default-2 : goal.returns-in_default-2
 returns-in_default-2 c =
-    let s : Scope = scope (view_given c.args.given.now) c.args.earlier.now in
+    let s : Scope = scope c.args.given.now c.args.earlier.now in
     let behind = c.in-Some-after_byte.rest.now in
     let none = subst (λ (o : Option (Vec ℕ Global × Bor (List ℕ))). IsOnly (IsShortValue s (record { quoted = false; command = c.is_command-command.result }) behind) (value_view o)) c.in_default-2.is c.in_ok-value.ensures in
     let here = subst (λ (b : Bool). (v : List ℕ × List ℕ) → IsShortValue s (record { quoted = false; command = b }) behind v → ⊥) c.is_command-command.ensures none in
@@ -26,7 +25,7 @@ returns-in_default-2 c =
 
 pub returns : goal.returns
 returns c =
-    let s : Scope = scope (view_given c.args.given.now) c.args.earlier.now in
+    let s : Scope = scope c.args.given.now c.args.earlier.now in
     let behind = c.in-Some-after_byte.rest.now in
     let r = view_reference c.in-Some.reference in
     let value = c.in-Some-2.value.items in

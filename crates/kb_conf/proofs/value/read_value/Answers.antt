@@ -1,7 +1,6 @@
 use Rattle.std.proofs.Common.{◌≡◌, ◌+◌, ◌++◌, false, not, List, ℕ, length, sym, ap, ◌∙◌, subst, arith}
 use Rattle.std.proofs.lemmas.Bool.{and_from, and_left, and_right}
 use Rattle.std.proofs.lemmas.List.{length-append}
-use Rattle.kb_conf.specs.GivenView.{view_given}
 use Rattle.kb_conf.specs.Piece.{Mode}
 use Rattle.kb_conf.specs.Value.{Scope, ends_item, gives}
 use Rattle.kb_conf.specs.Views.{mode_view, view_piece}
@@ -11,7 +10,7 @@ use Rattle.kb_conf.proofs.value.read_value.Goals.{else-not-mode-via-then-not-mod
 
 pub returns-then-bytes-len : goal.returns-then-bytes-len
 returns-then-bytes-len c =
-    let s : Scope = record { given = view_given c.args.given.now; earlier = c.args.earlier.now } in
+    let s : Scope = record { given = c.args.given.now; earlier = c.args.earlier.now } in
     let start : Mode = record { quoted = false; command = c.args.command } in
     let m = mode_view c.pieces.mode in
     let p = view_piece c.in-Some.piece in
@@ -22,7 +21,7 @@ returns-then-bytes-len c =
 
 pub pieces-preserved : goal.pieces-preserved
 pieces-preserved c =
-    let s : Scope = record { given = view_given c.args.given.now; earlier = c.args.earlier.now } in
+    let s : Scope = record { given = c.args.given.now; earlier = c.args.earlier.now } in
     let start : Mode = record { quoted = false; command = c.args.command } in
     let m = mode_view c.pieces.mode in
     let p = view_piece c.in-Some.piece in

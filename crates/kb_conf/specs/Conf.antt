@@ -1,0 +1,32 @@
+-- What a dkms.conf says: the first bad line, else the first missing or bad value, else the fields. After dkms(8).
+use Rattle.std.specs.Prelude.{ℕ, List, Option, Some, None, Result, Ok, Err}
+use Rattle.kb_world.specs.declared.refusal.Refusal.{Refusal}
+use Rattle.kb_world.specs.declared.refusal.Refusal.TheVariants as refusal
+use Rattle.kb_conf.specs.declared.conf.Conf.{Conf}
+use Rattle.kb_conf.specs.Assignment.{Given}
+use Rattle.kb_conf.specs.Values.{Values}
+use Rattle.kb_conf.specs.Checks.{value_refusal}
+use Rattle.kb_conf.specs.Fields.{fields_of}
+use Rattle.kb_conf.specs.Meaning.{Said, meaning_of}
+use Rattle.kb_conf.specs.Reading.{drop_returns}
+
+abbrev pub unless : Option Refusal → Conf → Result Conf Refusal
+unless None conf = Ok conf
+unless (Some due) conf = Err due
+
+-- what the assignments of a good text say
+abbrev pub conf_from : Given → Values → Result Conf Refusal
+conf_from given values = unless (value_refusal values) (fields_of given values)
+
+-- the assignments, or the refusal of the bad line
+abbrev pub values_in : Said → Result Values Refusal
+values_in (Ok values) = Ok values
+values_in (Err line) = Err (refusal.ConfLine line)
+
+abbrev pub conf_in : Given → Said → Result Conf Refusal
+conf_in given (Ok values) = conf_from given values
+conf_in given (Err line) = Err (refusal.ConfLine line)
+
+-- the conf that the text is, read for what is given, or its refusal
+unfoldable pub conf_of : List ℕ → Given → Result Conf Refusal
+conf_of text given = conf_in given (meaning_of given (drop_returns text))
