@@ -5,4 +5,5 @@ pub mod PathLaws
 pub mod PathText
 pub mod PublicLaws
 pub mod StepLaws
+pub mod TargetsLaws
 pub mod Told

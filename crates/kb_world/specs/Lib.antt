@@ -1,3 +1,5 @@
+pub mod Boxes
+pub mod Damage
 pub mod Does
 pub mod Job
 pub mod Names
@@ -11,5 +13,6 @@ pub mod State
 pub mod Steps
 pub mod Stop
 pub mod Store
+pub mod Targets
 pub mod Tree
 pub mod TreeLaws

@@ -11,6 +11,7 @@ mod refusal;
 mod roots;
 mod sink;
 mod stop;
+mod store_laws;
 #[cfg(test)]
 mod tests;
 mod text;
@@ -25,6 +26,7 @@ pub use refusal::{Refusal, bad_boot_line, bad_root_line, fault_line, message, no
 pub use roots::Roots;
 pub use sink::{Sink, SinkError};
 pub use stop::Stop;
+pub use store_laws::targets_are_read_back;
 pub use text::{Bytes, Text, Texts};
 pub use tree::{Kind, Node};
 pub use world::{World, WorldError};
