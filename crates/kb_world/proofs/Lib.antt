@@ -1,4 +1,5 @@
 pub mod AddLaws
+pub mod DamageLaws
 pub mod DoesLaws
 pub mod NameLaws
 pub mod PathLaws

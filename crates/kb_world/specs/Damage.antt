@@ -19,14 +19,15 @@ unless_sound sound path = cond sound [] (path ∷ [])
 abbrev pub source_harm : Roots → Tree → Key → List Path
 source_harm roots store key = unless_sound (is_added roots key store) (link_path roots key)
 
--- of what stands at a build's `targets`: it is damaged where it isn't in its format, a module's file where it is no
--- file, and the version's link where there is none
+-- `targets` is damaged where it isn't in its format, and a module's file where it is no file
+abbrev pub files_harm : Roots → Tree → Key → Spot → Option (List Path) → List Path
+files_harm roots store key spot None = targets_path roots key spot ∷ []
+files_harm roots store key spot (Some places) = filter (λ file. not (is_file (node_at store file))) (map (module_file roots key spot) places)
+
+-- of what stands at a build's `targets`: the version's link is damaged too, where there is none
 abbrev pub box_harm : Roots → Tree → Key → Spot → List Path
-box_harm roots store key spot = unless_sound (is_some (node_at store (link_path roots key))) (link_path roots key) ++ by (places_at roots store key spot)
-  where
-    by : Option (List Path) → List Path
-    by None = targets_path roots key spot ∷ []
-    by (Some places) = filter (λ file. not (is_file (node_at store file))) (map (module_file roots key spot) places)
+box_harm roots store key spot =
+    unless_sound (is_some (node_at store (link_path roots key))) (link_path roots key) ++ files_harm roots store key spot (places_at roots store key spot)
 
 -- of what stands at a spot's link: it is damaged where it isn't a link to a build of its module for that spot
 abbrev pub link_harm : Roots → Tree → Path → List ℕ → Option Spot → List Path
