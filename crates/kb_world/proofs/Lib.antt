@@ -5,6 +5,10 @@ pub mod NameLaws
 pub mod PathLaws
 pub mod PathText
 pub mod PublicLaws
+pub mod SoundEdits
+pub mod SoundLaws
+pub mod SoundPuts
+pub mod SpotLaws
 pub mod StepLaws
 pub mod TargetsLaws
 pub mod Told

@@ -58,14 +58,15 @@ box roots store key spot = retain_keys store (λ path. is_under path (in_box roo
 abbrev pub kernel_link_name : Spot → List ℕ
 kernel_link_name spot = codes "kernel-" ++ spot.kernel ++ codes "-" ++ spot.arch
 
+-- a byte before what is cut at its last dash, or cut there itself
+abbrev pub cut_with : ℕ → List ℕ → Option (List ℕ × List ℕ) → Option (List ℕ × List ℕ)
+cut_with c rest (Some cut) = Some (c ∷ cut.0, cut.1)
+cut_with c rest None = cond (nat_eq c (byte "-")) (Some ([], rest)) None
+
 -- what stands before and after the last dash
 abbrev pub cut_at_dash : List ℕ → Option (List ℕ × List ℕ)
 cut_at_dash [] = None
-cut_at_dash (c ∷ rest) = before c rest (cut_at_dash rest)
-  where
-    before : ℕ → List ℕ → Option (List ℕ × List ℕ) → Option (List ℕ × List ℕ)
-    before c rest (Some cut) = Some (c ∷ cut.0, cut.1)
-    before c rest None = cond (nat_eq c (byte "-")) (Some ([], rest)) None
+cut_at_dash (c ∷ rest) = cut_with c rest (cut_at_dash rest)
 
 -- the kernel and the architecture that the cut gives, where they keep their rules
 abbrev pub spot_if : List ℕ × List ℕ → Option Spot

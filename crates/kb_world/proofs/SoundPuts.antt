@@ -1,0 +1,99 @@
+-- A link, a build's `targets` and a version's link that are put keep a store sound.
+use Rattle.std.proofs.Common.{◌≡◌, ◌≢◌, ℕ, Bool, true, false, cond, ◌&&◌, ◌||◌, not, List, [], ◌∷◌, ◌++◌, length, drop, map, Option, Some, None, is_some, codes, refl, sym, ap, ◌∙◌, subst}
+use Rattle.std.proofs.lemmas.List.{append_cancel_left}
+use Rattle.std.specs.Prelude.{bytes_eq, option_and_then}
+use Rattle.std.specs.List.{list_all}
+use Rattle.std.specs.Cmp.{first_so, second_so}
+use Rattle.std.specs.Cmp.Derive.{both_true}
+use Rattle.std.specs.Cmp.Lexicographic.{bytes_decides}
+use Rattle.kb_world.specs.Names.{is_word, is_version}
+use Rattle.kb_world.specs.Path.{Path}
+use Rattle.kb_world.specs.Tree.{Tree, node_at, with_node, is_file, link_text}
+use Rattle.kb_world.specs.TreeLaws.{same_path, same_path-true, node_at-with_node, with_node-apart}
+use Rattle.kb_world.specs.Store.{is_key, is_added, link_path, source_text, says}
+use Rattle.kb_world.specs.Targets.{file_bytes, last_name, are_targets, targets_text, targets_of}
+use Rattle.kb_world.specs.Boxes.{is_spot, targets_path, module_file, places_at, is_built, has_files, kernel_link_name, spot_of_link, kernel_link_path, kernel_link_text, version_of, linked_at, key_of}
+use Rattle.kb_world.specs.declared.roots.Roots.{Roots}
+use Rattle.kb_world.specs.declared.job.Key.{Key}
+use Rattle.kb_world.specs.declared.job.Spot.{Spot}
+use Rattle.kb_world.specs.declared.tree.Node.{Node}
+use Rattle.kb_world.specs.declared.tree.Node.TheVariants as node
+use Rattle.kb_world.proofs.DamageLaws.{spot_of, IsSoundBox, IsSound, AreLinksSound, link_names}
+use Rattle.kb_world.proofs.SoundLaws.{list_all-so, linked-so, told-version}
+use Rattle.kb_world.proofs.SpotLaws.{link_read, text_read}
+use Rattle.kb_world.proofs.TargetsLaws.{printed}
+
+-- a build stays sound where its link stands and its files stay
+pub box-so : (roots : Roots) (old new : Tree) (key : Key) (spot : Spot) → is_some (node_at new (link_path roots key)) ≡ true → node_at new (targets_path roots key spot) ≡ node_at old (targets_path roots key spot)
+    → ((place : Path) → is_file (node_at old (module_file roots key spot place)) ≡ true → is_file (node_at new (module_file roots key spot place)) ≡ true)
+    → IsSoundBox roots old key spot → IsSoundBox roots new key spot
+box-so roots old new key spot stands targets files b = record {
+  stands = stands;
+  places = b.places;
+  told = ap (λ at. option_and_then targets_of (file_bytes at)) targets ∙ b.told;
+  files = list_all-so (λ place. is_file (node_at old (module_file roots key spot place))) (λ place. is_file (node_at new (module_file roots key spot place))) b.places files b.files;
+}
+
+pub built-so : (roots : Roots) (old new : Tree) (key : Key) (spot : Spot) → node_at new (targets_path roots key spot) ≡ node_at old (targets_path roots key spot) → is_built roots old key spot ≡ true → is_built roots new key spot ≡ true
+built-so roots old new key spot targets built = ap (λ at. is_some (option_and_then targets_of (file_bytes at))) targets ∙ built
+
+-- a link stays sound where it stays, and what it says stays built
+pub link-so : (roots : Roots) (old new : Tree) (word : List ℕ) (spot : Spot) (path : Path) → node_at new path ≡ node_at old path
+    → ((version : List ℕ) → is_version version ≡ true → option_and_then (version_of spot) (link_text (node_at old path)) ≡ Some version → is_built roots old (key_of word version) spot ≡ true → is_built roots new (key_of word version) spot ≡ true)
+    → is_some (linked_at roots old path word spot) ≡ true → is_some (linked_at roots new path word spot) ≡ true
+link-so roots old new word spot path stays built before =
+    ap (λ at. is_some (option_and_then (λ version. cond (is_built roots new (key_of word version) spot) (Some version) None) (option_and_then (version_of spot) (link_text at)))) stays
+    ∙ linked-so roots old new word spot (option_and_then (version_of spot) (link_text (node_at old path)))
+    (λ version told was. built version (told-version spot (link_text (node_at old path)) version told) told was) before
+
+module _ (roots : Roots) (tree : Tree) where
+  -- elsewhere it stays
+  other : (names : Path) (at : Node) (q : Path) → q ≢ names → node_at (with_node (roots.dkms ++ names) at tree) (roots.dkms ++ q) ≡ node_at tree (roots.dkms ++ q)
+  other names at q apart = with_node-apart tree (roots.dkms ++ names) at (roots.dkms ++ q) (λ e. apart (append_cancel_left roots.dkms q names e))
+
+  -- a version's link comes to stand
+  pub source_put : (word version : List ℕ) → IsSound roots tree → IsSound roots (with_node (link_path roots (key_of word version)) (node.Link (source_text roots (key_of word version))) tree)
+  source_put word version s = subst (λ p. IsSound roots (with_node p at tree)) (sym (link_names roots (key_of word version))) (record {
+    sources = λ w v named stands. at_source w v named (same_path (roots.dkms ++ w ∷ v ∷ codes "source" ∷ []) (roots.dkms ++ here)) refl stands;
+    boxes = λ w v k a named spotted stands.
+        let e = other here at (w ∷ v ∷ k ∷ a ∷ codes "targets" ∷ []) (λ e. cc) in
+        let b = s.boxes w v k a named spotted (ap is_some (sym e) ∙ stands) in
+        box-so roots tree new (key_of w v) (spot_of k a) (stays w v (same_path (roots.dkms ++ w ∷ v ∷ codes "source" ∷ []) (roots.dkms ++ here)) refl b.stands) e
+        (λ place file. ap is_file (other here at (w ∷ v ∷ k ∷ a ∷ codes "module" ∷ last_name place ∷ []) (λ e. cc)) ∙ file) b;
+    links = λ w name spot named told stands.
+        let e = other here at (w ∷ name ∷ []) (λ e. cc) in
+        link-so roots tree new w spot (roots.dkms ++ w ∷ name ∷ []) e
+        (λ v is told_too was. built-so roots tree new (key_of w v) spot (other here at (w ∷ v ∷ spot.kernel ∷ spot.arch ∷ codes "targets" ∷ []) (λ e. cc)) was)
+        (s.links w name spot named told (ap is_some (sym e) ∙ stands));
+  })
+    where
+      at : Node
+      at = node.Link (source_text roots (key_of word version))
+
+      here : Path
+      here = word ∷ version ∷ codes "source" ∷ []
+
+      new : Tree
+      new = with_node (roots.dkms ++ here) at tree
+
+      put : (w v : List ℕ) → node_at new (roots.dkms ++ w ∷ v ∷ codes "source" ∷ []) ≡ cond (same_path (roots.dkms ++ w ∷ v ∷ codes "source" ∷ []) (roots.dkms ++ here)) (Some at) (node_at tree (roots.dkms ++ w ∷ v ∷ codes "source" ∷ []))
+      put w v = node_at-with_node tree (roots.dkms ++ here) at (roots.dkms ++ w ∷ v ∷ codes "source" ∷ [])
+
+      stays : (w v : List ℕ) (b : Bool) → same_path (roots.dkms ++ w ∷ v ∷ codes "source" ∷ []) (roots.dkms ++ here) ≡ b → is_some (node_at tree (link_path roots (key_of w v))) ≡ true → is_some (node_at new (link_path roots (key_of w v))) ≡ true
+      stays w v true e was = ap (λ p. is_some (node_at new p)) (link_names roots (key_of w v)) ∙ ap is_some (put w v) ∙ ap (λ b. is_some (cond b (Some at) (node_at tree (roots.dkms ++ w ∷ v ∷ codes "source" ∷ [])))) e
+      stays w v false e was =
+          ap (λ p. is_some (node_at new p)) (link_names roots (key_of w v)) ∙ ap is_some (put w v) ∙ ap (λ b. is_some (cond b (Some at) (node_at tree (roots.dkms ++ w ∷ v ∷ codes "source" ∷ [])))) e
+          ∙ sym (ap (λ p. is_some (node_at tree p)) (link_names roots (key_of w v))) ∙ was
+
+      at_source : (w v : List ℕ) → is_key (key_of w v) ≡ true → (b : Bool) → same_path (roots.dkms ++ w ∷ v ∷ codes "source" ∷ []) (roots.dkms ++ here) ≡ b → is_some (node_at new (link_path roots (key_of w v))) ≡ true → is_added roots (key_of w v) new ≡ true
+      at_source w v named true e stands =
+          let is = append_cancel_left roots.dkms (w ∷ v ∷ codes "source" ∷ []) here (same_path-true (roots.dkms ++ w ∷ v ∷ codes "source" ∷ []) (roots.dkms ++ here) e) in
+          let w_is : w ≡ word = cc in
+          let v_is : v ≡ version = cc in
+          let texts : source_text roots (key_of w v) ≡ source_text roots (key_of word version) = ap (λ x. source_text roots (key_of x v)) w_is ∙ ap (λ x. source_text roots (key_of word x)) v_is in
+          ap (λ p. says (source_text roots (key_of w v)) (link_text (node_at new p))) (link_names roots (key_of w v)) ∙ ap (λ n. says (source_text roots (key_of w v)) (link_text n)) (put w v)
+          ∙ ap (λ b. says (source_text roots (key_of w v)) (link_text (cond b (Some at) (node_at tree (roots.dkms ++ w ∷ v ∷ codes "source" ∷ []))))) e
+          ∙ (bytes_decides (source_text roots (key_of word version)) (source_text roots (key_of w v))).1 (sym texts)
+      at_source w v named false e stands =
+          let same_node = ap (node_at new) (link_names roots (key_of w v)) ∙ put w v ∙ ap (λ b. cond b (Some at) (node_at tree (roots.dkms ++ w ∷ v ∷ codes "source" ∷ []))) e ∙ sym (ap (node_at tree) (link_names roots (key_of w v))) in
+          ap (λ n. says (source_text roots (key_of w v)) (link_text n)) same_node ∙ s.sources w v named (ap is_some (sym same_node) ∙ stands)
