@@ -91,7 +91,7 @@ link-firm text (Some node.Dir) h = absurd (untrue h)
 link-firm text (Some (node.File bytes exec)) h = refl
 link-firm text (Some (node.Link told)) h = refl
 
-link-stands : (text : List ℕ) (at : Option Node) → says text (link_text at) ≡ true → is_some at ≡ true
+pub link-stands : (text : List ℕ) (at : Option Node) → says text (link_text at) ≡ true → is_some at ≡ true
 link-stands text None h = h
 link-stands text (Some at) h = refl
 

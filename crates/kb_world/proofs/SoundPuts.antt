@@ -6,7 +6,7 @@ use Rattle.std.specs.List.{list_all}
 use Rattle.std.specs.Cmp.{first_so, second_so}
 use Rattle.std.specs.Cmp.Derive.{both_true}
 use Rattle.std.specs.Cmp.Lexicographic.{bytes_decides}
-use Rattle.kb_world.specs.Names.{is_word, is_version}
+use Rattle.kb_world.specs.Names.{is_word, is_version, is_kernel, is_arch}
 use Rattle.kb_world.specs.Path.{Path}
 use Rattle.kb_world.specs.Tree.{Tree, node_at, with_node, is_file, link_text}
 use Rattle.kb_world.specs.TreeLaws.{same_path, same_path-true, node_at-with_node, with_node-apart}
@@ -19,7 +19,7 @@ use Rattle.kb_world.specs.declared.job.Spot.{Spot}
 use Rattle.kb_world.specs.declared.tree.Node.{Node}
 use Rattle.kb_world.specs.declared.tree.Node.TheVariants as node
 use Rattle.kb_world.proofs.DamageLaws.{spot_of, IsSoundBox, IsSound, AreLinksSound, link_names}
-use Rattle.kb_world.proofs.SoundLaws.{list_all-so, linked-so, told-version}
+use Rattle.kb_world.proofs.SoundLaws.{list_all-so, linked-so, told-version, link-stands}
 use Rattle.kb_world.proofs.SpotLaws.{link_read, text_read}
 use Rattle.kb_world.proofs.TargetsLaws.{printed}
 
@@ -97,3 +97,125 @@ module _ (roots : Roots) (tree : Tree) where
       at_source w v named false e stands =
           let same_node = ap (node_at new) (link_names roots (key_of w v)) ∙ put w v ∙ ap (λ b. cond b (Some at) (node_at tree (roots.dkms ++ w ∷ v ∷ codes "source" ∷ []))) e ∙ sym (ap (node_at tree) (link_names roots (key_of w v))) in
           ap (λ n. says (source_text roots (key_of w v)) (link_text n)) same_node ∙ s.sources w v named (ap is_some (sym same_node) ∙ stands)
+
+  -- a build's `targets` comes to stand, behind its files
+  pub targets_put : (word version : List ℕ) (spot : Spot) (places : List Path) → is_added roots (key_of word version) tree ≡ true → are_targets places ≡ true → has_files roots tree (key_of word version) spot places ≡ true
+      → IsSound roots tree → IsSound roots (with_node (targets_path roots (key_of word version) spot) (node.File (targets_text places) false) tree)
+  targets_put word version spot places added fit files s = record {
+    sources = λ w v named stands.
+        let e = source_same w v in
+        ap (λ n. says (source_text roots (key_of w v)) (link_text n)) e ∙ s.sources w v named (ap is_some (sym e) ∙ stands);
+    boxes = λ w v k a named spotted stands. at_box w v k a named spotted (same_path (targets_path roots (key_of w v) (spot_of k a)) (roots.dkms ++ here)) refl stands;
+    links = λ w name link_spot named told stands.
+        let e = other here at (w ∷ name ∷ []) (λ e. cc) in
+        link-so roots tree new w link_spot (roots.dkms ++ w ∷ name ∷ []) e
+        (λ v is told_too was. built w v link_spot (same_path (targets_path roots (key_of w v) link_spot) (roots.dkms ++ here)) refl was)
+        (s.links w name link_spot named told (ap is_some (sym e) ∙ stands));
+  }
+    where
+      at : Node
+      at = node.File (targets_text places) false
+
+      here : Path
+      here = word ∷ version ∷ spot.kernel ∷ spot.arch ∷ codes "targets" ∷ []
+
+      new : Tree
+      new = with_node (roots.dkms ++ here) at tree
+
+      source_same : (w v : List ℕ) → node_at new (link_path roots (key_of w v)) ≡ node_at tree (link_path roots (key_of w v))
+      source_same w v = ap (node_at new) (link_names roots (key_of w v)) ∙ other here at (w ∷ v ∷ codes "source" ∷ []) (λ e. cc) ∙ sym (ap (node_at tree) (link_names roots (key_of w v)))
+
+      no_module : bytes_eq (codes "module") (codes "targets") ≡ false
+      no_module = refl
+
+      file_same : (w v k a file : List ℕ) → node_at new (roots.dkms ++ w ∷ v ∷ k ∷ a ∷ codes "module" ∷ file ∷ []) ≡ node_at tree (roots.dkms ++ w ∷ v ∷ k ∷ a ∷ codes "module" ∷ file ∷ [])
+      file_same w v k a file = other here at (w ∷ v ∷ k ∷ a ∷ codes "module" ∷ file ∷ []) (λ e. cc)
+
+      read_here : option_and_then targets_of (file_bytes (Some at)) ≡ Some places
+      read_here = printed places fit
+
+      put : (p : Path) → node_at new p ≡ cond (same_path p (roots.dkms ++ here)) (Some at) (node_at tree p)
+      put p = node_at-with_node tree (roots.dkms ++ here) at p
+
+      built : (w v : List ℕ) (link_spot : Spot) (b : Bool) → same_path (targets_path roots (key_of w v) link_spot) (roots.dkms ++ here) ≡ b → is_built roots tree (key_of w v) link_spot ≡ true → is_built roots new (key_of w v) link_spot ≡ true
+      built w v link_spot true e was =
+          ap (λ n. is_some (option_and_then targets_of (file_bytes n))) (put (targets_path roots (key_of w v) link_spot) ∙ ap (λ b. cond b (Some at) (node_at tree (targets_path roots (key_of w v) link_spot))) e) ∙ ap is_some read_here
+      built w v link_spot false e was =
+          built-so roots tree new (key_of w v) link_spot (put (targets_path roots (key_of w v) link_spot) ∙ ap (λ b. cond b (Some at) (node_at tree (targets_path roots (key_of w v) link_spot))) e) was
+
+      at_box : (w v k a : List ℕ) → is_key (key_of w v) ≡ true → is_spot (spot_of k a) ≡ true → (b : Bool) → same_path (targets_path roots (key_of w v) (spot_of k a)) (roots.dkms ++ here) ≡ b
+          → is_some (node_at new (targets_path roots (key_of w v) (spot_of k a))) ≡ true → IsSoundBox roots new (key_of w v) (spot_of k a)
+      at_box w v k a named spotted true e stands =
+          let is = append_cancel_left roots.dkms (w ∷ v ∷ k ∷ a ∷ codes "targets" ∷ []) here (same_path-true (targets_path roots (key_of w v) (spot_of k a)) (roots.dkms ++ here) e) in
+          let w_is : word ≡ w = cc in
+          let v_is : version ≡ v = cc in
+          let k_is : spot.kernel ≡ k = cc in
+          let a_is : spot.arch ≡ a = cc in
+          let moved : has_files roots tree (key_of w v) (spot_of k a) places ≡ true =
+              ap (λ x. has_files roots tree (key_of x v) (spot_of k a) places) (sym w_is) ∙ ap (λ x. has_files roots tree (key_of word x) (spot_of k a) places) (sym v_is)
+              ∙ ap (λ x. has_files roots tree (key_of word version) (spot_of x a) places) (sym k_is) ∙ ap (λ x. has_files roots tree (key_of word version) (spot_of spot.kernel x) places) (sym a_is) ∙ files in
+          let added_here : is_added roots (key_of w v) tree ≡ true = ap (λ x. is_added roots (key_of x v) tree) (sym w_is) ∙ ap (λ x. is_added roots (key_of word x) tree) (sym v_is) ∙ added in
+          record {
+            stands = ap is_some (source_same w v) ∙ link-stands (source_text roots (key_of w v)) (node_at tree (link_path roots (key_of w v))) added_here;
+            places = places;
+            told = ap (λ n. option_and_then targets_of (file_bytes n)) (put (targets_path roots (key_of w v) (spot_of k a)) ∙ ap (λ b. cond b (Some at) (node_at tree (targets_path roots (key_of w v) (spot_of k a)))) e) ∙ read_here;
+            files = list_all-so (λ place. is_file (node_at tree (module_file roots (key_of w v) (spot_of k a) place))) (λ place. is_file (node_at new (module_file roots (key_of w v) (spot_of k a) place))) places
+                (λ place file. ap is_file (file_same w v k a (last_name place)) ∙ file) moved;
+          }
+      at_box w v k a named spotted false e stands =
+          let same_node = put (targets_path roots (key_of w v) (spot_of k a)) ∙ ap (λ b. cond b (Some at) (node_at tree (targets_path roots (key_of w v) (spot_of k a)))) e in
+          let b = s.boxes w v k a named spotted (ap is_some (sym same_node) ∙ stands) in
+          box-so roots tree new (key_of w v) (spot_of k a) (ap is_some (source_same w v) ∙ b.stands) same_node (λ place file. ap is_file (file_same w v k a (last_name place)) ∙ file) b
+
+  -- the link of a built version comes to stand
+  pub link_put : (word version kernel arch : List ℕ) → is_version version ≡ true → is_spot (spot_of kernel arch) ≡ true → is_built roots tree (key_of word version) (spot_of kernel arch) ≡ true
+      → IsSound roots tree → IsSound roots (with_node (kernel_link_path roots word (spot_of kernel arch)) (node.Link (kernel_link_text version (spot_of kernel arch))) tree)
+  link_put word version kernel arch named_version spotted_here built s = record {
+    sources = λ w v named stands.
+        let e = ap (node_at new) (link_names roots (key_of w v)) ∙ other here at (w ∷ v ∷ codes "source" ∷ []) (λ e. cc) ∙ sym (ap (node_at tree) (link_names roots (key_of w v))) in
+        ap (λ n. says (source_text roots (key_of w v)) (link_text n)) e ∙ s.sources w v named (ap is_some (sym e) ∙ stands);
+    boxes = λ w v k a named spotted stands.
+        let e = other here at (w ∷ v ∷ k ∷ a ∷ codes "targets" ∷ []) (λ e. cc) in
+        let b = s.boxes w v k a named spotted (ap is_some (sym e) ∙ stands) in
+        let source = ap (node_at new) (link_names roots (key_of w v)) ∙ other here at (w ∷ v ∷ codes "source" ∷ []) (λ e. cc) ∙ sym (ap (node_at tree) (link_names roots (key_of w v))) in
+        box-so roots tree new (key_of w v) (spot_of k a) (ap is_some source ∙ b.stands) e (λ place file. ap is_file (other here at (w ∷ v ∷ k ∷ a ∷ codes "module" ∷ last_name place ∷ []) (λ e. cc)) ∙ file) b;
+    links = λ w name link_spot named told stands. at_link w name link_spot named told (same_path (roots.dkms ++ w ∷ name ∷ []) (roots.dkms ++ here)) refl stands;
+  }
+    where
+      spot : Spot
+      spot = spot_of kernel arch
+
+      at : Node
+      at = node.Link (kernel_link_text version spot)
+
+      here : Path
+      here = word ∷ kernel_link_name spot ∷ []
+
+      new : Tree
+      new = with_node (roots.dkms ++ here) at tree
+
+      targets_same : (key : Key) (s : Spot) → node_at new (targets_path roots key s) ≡ node_at tree (targets_path roots key s)
+      targets_same key s = other here at (key.module ∷ key.version ∷ s.kernel ∷ s.arch ∷ codes "targets" ∷ []) (λ e. cc)
+
+      said : is_some (option_and_then (λ v. cond (is_built roots new (key_of word v) spot) (Some v) None) (option_and_then (version_of spot) (link_text (Some at)))) ≡ true
+      said =
+          ap (λ o. is_some (option_and_then (λ v. cond (is_built roots new (key_of word v) spot) (Some v) None) o)) (text_read spot version named_version)
+          ∙ ap (λ b. is_some (cond b (Some version) None)) (built-so roots tree new (key_of word version) spot (targets_same (key_of word version) spot) built)
+
+      at_link : (w name : List ℕ) (link_spot : Spot) → is_word w ≡ true → spot_of_link name ≡ Some link_spot → (b : Bool) → same_path (roots.dkms ++ w ∷ name ∷ []) (roots.dkms ++ here) ≡ b
+          → is_some (node_at new (roots.dkms ++ w ∷ name ∷ [])) ≡ true → is_some (linked_at roots new (roots.dkms ++ w ∷ name ∷ []) w link_spot) ≡ true
+      at_link w name link_spot named told true e stands =
+          let is = append_cancel_left roots.dkms (w ∷ name ∷ []) here (same_path-true (roots.dkms ++ w ∷ name ∷ []) (roots.dkms ++ here) e) in
+          let w_is : w ≡ word = cc in
+          let name_is : name ≡ kernel_link_name spot = cc in
+          let spots : Some link_spot ≡ Some spot = sym told ∙ ap spot_of_link name_is ∙ link_read kernel arch (first_so (is_kernel kernel) (is_arch arch) spotted_here) (second_so (is_kernel kernel) (is_arch arch) spotted_here) in
+          let spot_is : link_spot ≡ spot = cc in
+          let node_is : node_at new (roots.dkms ++ w ∷ name ∷ []) ≡ Some at = node_at-with_node tree (roots.dkms ++ here) at (roots.dkms ++ w ∷ name ∷ []) ∙ ap (λ b. cond b (Some at) (node_at tree (roots.dkms ++ w ∷ name ∷ []))) e in
+          ap (λ n. is_some (option_and_then (λ v. cond (is_built roots new (key_of w v) link_spot) (Some v) None) (option_and_then (version_of link_spot) (link_text n)))) node_is
+          ∙ ap (λ x. is_some (option_and_then (λ v. cond (is_built roots new (key_of w v) x) (Some v) None) (option_and_then (version_of x) (link_text (Some at))))) spot_is
+          ∙ ap (λ x. is_some (option_and_then (λ v. cond (is_built roots new (key_of x v) spot) (Some v) None) (option_and_then (version_of spot) (link_text (Some at))))) w_is ∙ said
+      at_link w name link_spot named told false e stands =
+          let same_node = node_at-with_node tree (roots.dkms ++ here) at (roots.dkms ++ w ∷ name ∷ []) ∙ ap (λ b. cond b (Some at) (node_at tree (roots.dkms ++ w ∷ name ∷ []))) e in
+          link-so roots tree new w link_spot (roots.dkms ++ w ∷ name ∷ []) same_node
+          (λ v is told_too was. built-so roots tree new (key_of w v) link_spot (targets_same (key_of w v) link_spot) was)
+          (s.links w name link_spot named told (ap is_some (sym same_node) ∙ stands))
