@@ -8,6 +8,7 @@ pub mod PublicLaws
 pub mod SoundEdits
 pub mod SoundLaws
 pub mod SoundPuts
+pub mod SoundSteps
 pub mod SoundTakes
 pub mod SpotLaws
 pub mod StepLaws

@@ -80,7 +80,7 @@ kept-firm names old new flat firm (same e) = e
 kept-firm names old new flat firm (gone e g) = absurd (untrue (sym firm ∙ g))
 kept-firm names old new flat firm (filed f m) = absurd (untrue (sym flat ∙ m))
 
-kept-file : (names : Path) (old new : Option Node) → may_go names old ≡ false → is_file old ≡ true → Kept names old new → is_file new ≡ true
+pub kept-file : (names : Path) (old new : Option Node) → may_go names old ≡ false → is_file old ≡ true → Kept names old new → is_file new ≡ true
 kept-file names old new firm file (same e) = ap is_file e ∙ file
 kept-file names old new firm file (gone e g) = absurd (untrue (sym firm ∙ g))
 kept-file names old new firm file (filed f m) = f
@@ -95,7 +95,7 @@ pub link-stands : (text : List ℕ) (at : Option Node) → says text (link_text 
 link-stands text None h = h
 link-stands text (Some at) h = refl
 
-file-firm : (at : Option Node) → is_file at ≡ true → is_dir at ≡ false
+pub file-firm : (at : Option Node) → is_file at ≡ true → is_dir at ≡ false
 file-firm None h = refl
 file-firm (Some node.Dir) h = absurd (untrue h)
 file-firm (Some (node.File bytes exec)) h = refl

@@ -31,9 +31,6 @@ abbrev pub below_entry : Roots → Path → Path → Bool
 below_entry roots names path = is_under path (roots.dkms ++ names)
 
 module _ (roots : Roots) (names : Path) (tree : Tree) where
-  left : Tree
-  left = without (below_entry roots names) tree
-
   pub left-at : (q : Path) → node_at (without (below_entry roots names) tree) (roots.dkms ++ q) ≡ cond (not (is_under q names)) (node_at tree (roots.dkms ++ q)) None
   left-at q = node_at-without (below_entry roots names) tree (roots.dkms ++ q) ∙ ap (λ b. cond (not b) (node_at tree (roots.dkms ++ q)) None) (under-beside roots.dkms q names)
 
