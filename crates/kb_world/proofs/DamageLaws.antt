@@ -147,7 +147,7 @@ sound_from roots store e = record {
       let key = key_of word version in
       let spot = spot_of kernel arch in
       let none = opened (is_key key && is_spot spot && true) (box_harm roots store key spot) (both_true (both_true named spotted) refl)
-          (harmless roots store e (word ∷ version ∷ kernel ∷ arch ∷ codes "targets" ∷ []) stands) in
+      (harmless roots store e (word ∷ version ∷ kernel ∷ arch ∷ codes "targets" ∷ []) stands) in
       files_of roots store key spot (places_at roots store key spot) refl (back_empty (unless_sound (is_some (node_at store (link_path roots key))) (link_path roots key)) _ none)
       (sound-of (is_some (node_at store (link_path roots key))) (link_path roots key) (front_empty _ (files_harm roots store key spot (places_at roots store key spot)) none));
   links = λ word name spot named told stands.

@@ -5,6 +5,7 @@ pub mod NameLaws
 pub mod PathLaws
 pub mod PathText
 pub mod PublicLaws
+pub mod SoundDrops
 pub mod SoundEdits
 pub mod SoundLaws
 pub mod SoundPuts
@@ -12,5 +13,6 @@ pub mod SoundSteps
 pub mod SoundTakes
 pub mod SpotLaws
 pub mod StepLaws
+pub mod StoreSteps
 pub mod TargetsLaws
 pub mod Told

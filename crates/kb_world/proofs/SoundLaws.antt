@@ -124,9 +124,10 @@ version-of spot text version h = by (bytes_eq text (kernel_link_text front spot)
     by : (b : Bool) → (bytes_eq text (kernel_link_text front spot) && is_version front) ≡ b → (is_version version ≡ true) × (text ≡ kernel_link_text version spot)
     by true e =
         let some : Some front ≡ Some version = sym (ap (λ b. cond b (Some front) None) e) ∙ h in
-        let is : front ≡ version = cc in
-        (ap is_version (sym is) ∙ second_so (bytes_eq text (kernel_link_text front spot)) (is_version front) e,
-        (bytes_decides text (kernel_link_text front spot)).0 (first_so (bytes_eq text (kernel_link_text front spot)) (is_version front) e) ∙ ap (λ v. kernel_link_text v spot) is)
+        let is : front ≡ version = cc in (
+          ap is_version (sym is) ∙ second_so (bytes_eq text (kernel_link_text front spot)) (is_version front) e,
+          (bytes_decides text (kernel_link_text front spot)).0 (first_so (bytes_eq text (kernel_link_text front spot)) (is_version front) e) ∙ ap (λ v. kernel_link_text v spot) is,
+        )
     by false e = let none : None ≡ Some version = sym (ap (λ b. cond b (Some front) None) e) ∙ h in absurd (no_version none)
 
 -- where the versions that a link may say stay built, the link stays one
@@ -194,5 +195,5 @@ module _ (roots : Roots) (old new : Tree) (kept : Keeps roots old new) where
         let text = option_and_then (version_of spot) (link_text (node_at old path)) in
         ap (λ at. is_some (option_and_then (λ version. cond (is_built roots new (key_of word version) spot) (Some version) None) (option_and_then (version_of spot) (link_text at)))) e
         ∙ linked-so roots old new word spot text (λ version says_so built.
-            ap (λ at. is_some (option_and_then targets_of (file_bytes at))) (built-kept word version spot (told-version spot (link_text (node_at old path)) version says_so) built) ∙ built) before;
+        ap (λ at. is_some (option_and_then targets_of (file_bytes at))) (built-kept word version spot (told-version spot (link_text (node_at old path)) version says_so) built) ∙ built) before;
   }

@@ -152,8 +152,8 @@ module _ (roots : Roots) (tree : Tree) where
           let k_is : spot.kernel ≡ k = cc in
           let a_is : spot.arch ≡ a = cc in
           let moved : has_files roots tree (key_of w v) (spot_of k a) places ≡ true =
-              ap (λ x. has_files roots tree (key_of x v) (spot_of k a) places) (sym w_is) ∙ ap (λ x. has_files roots tree (key_of word x) (spot_of k a) places) (sym v_is)
-              ∙ ap (λ x. has_files roots tree (key_of word version) (spot_of x a) places) (sym k_is) ∙ ap (λ x. has_files roots tree (key_of word version) (spot_of spot.kernel x) places) (sym a_is) ∙ files in
+          ap (λ x. has_files roots tree (key_of x v) (spot_of k a) places) (sym w_is) ∙ ap (λ x. has_files roots tree (key_of word x) (spot_of k a) places) (sym v_is)
+          ∙ ap (λ x. has_files roots tree (key_of word version) (spot_of x a) places) (sym k_is) ∙ ap (λ x. has_files roots tree (key_of word version) (spot_of spot.kernel x) places) (sym a_is) ∙ files in
           let added_here : is_added roots (key_of w v) tree ≡ true = ap (λ x. is_added roots (key_of x v) tree) (sym w_is) ∙ ap (λ x. is_added roots (key_of word x) tree) (sym v_is) ∙ added in
           record {
             stands = ap is_some (source_same w v) ∙ link-stands (source_text roots (key_of w v)) (node_at tree (link_path roots (key_of w v))) added_here;

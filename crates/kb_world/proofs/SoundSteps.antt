@@ -30,17 +30,17 @@ use Rattle.kb_world.proofs.SoundPuts.{source_put, targets_put, link_put}
 use Rattle.kb_world.proofs.SoundTakes.{below_entry, left-apart, left-none, HasNoBuilds, source_gone, IsUnlinked, box_gone}
 use Rattle.kb_world.proofs.SpotLaws.{version_no_link, kernel_no_source}
 
-untrue : false ≡ true → ⊥
+pub untrue : false ≡ true → ⊥
 untrue e = cc
 
-and_false : (a : Bool) → (a && false) ≡ false
+pub and_false : (a : Bool) → (a && false) ≡ false
 and_false true = refl
 and_false false = refl
 
-and_no : (a b : Bool) → b ≡ false → (a && b) ≡ false
+pub and_no : (a b : Bool) → b ≡ false → (a && b) ≡ false
 and_no a b e = ap (λ x. a && x) e ∙ and_false a
 
-spared_sound : (roots : Roots) → IsSpared roots (IsSound roots)
+pub spared_sound : (roots : Roots) → IsSpared roots (IsSound roots)
 spared_sound roots old new kept s = sound_kept roots old new kept s
 
 -- ---- Add
@@ -48,20 +48,20 @@ spared_sound roots old new kept s = sound_kept roots old new kept s
 tells_version : (word version : List ℕ) → is_version version ≡ true → tells (word ∷ version ∷ []) ≡ false
 tells_version word version named = version_no_link version named
 
-add_sound : (roots : Roots) (key : Key) (store : Tree) → is_key key ≡ true → IsSound roots store → IsSound roots (add_step roots key store)
+pub add_sound : (roots : Roots) (key : Key) (store : Tree) → is_key key ≡ true → IsSound roots store → IsSound roots (add_step roots key store)
 unfolding add_step
 add_sound roots key store named s =
     let version = second_so (is_word key.module) (is_version key.version) named in
     let there : version_path roots key ≡ roots.dkms ++ key.module ∷ key.version ∷ [] = append_assoc roots.dkms (key.module ∷ []) (key.version ∷ []) in
     let once = directory_aside roots (IsSound roots) (spared_sound roots) (module_path roots key) store (aside-of roots (key.module ∷ []) refl) s in
     let twice = directory_aside roots (IsSound roots) (spared_sound roots) (version_path roots key) (with_directory (module_path roots key) store)
-        (subst (IsAside roots) (sym there) (aside-of roots (key.module ∷ key.version ∷ []) (tells_version key.module key.version version))) once in
+    (subst (IsAside roots) (sym there) (aside-of roots (key.module ∷ key.version ∷ []) (tells_version key.module key.version version))) once in
     source_put roots (with_directory (version_path roots key) (with_directory (module_path roots key) store)) key.module key.version twice
 
 -- ---- Build
 
 -- an entry below an entry, by its names below the dkms root
-below-entry : (dkms names : Path) (name : List ℕ) (more : Path) → child (dkms ++ names) name ++ more ≡ dkms ++ (names ++ name ∷ more)
+pub below-entry : (dkms names : Path) (name : List ℕ) (more : Path) → child (dkms ++ names) name ++ more ≡ dkms ++ (names ++ name ∷ more)
 below-entry dkms names name more = append_assoc (dkms ++ names) (name ∷ []) more ∙ append_assoc dkms names (name ∷ more)
 
 tells_log : (w v k a : List ℕ) (more : Path) → tells (w ∷ v ∷ k ∷ a ∷ codes "log" ∷ more) ≡ false
@@ -98,8 +98,8 @@ module _ (roots : Roots) (key : Key) (spot : Spot) (named : is_version key.versi
   module_put P spared built tree p =
       let file = last_name built.0 in
       let made : P (with_directory (in_box roots key spot (codes "module" ∷ [])) tree) =
-          directory_aside roots P spared (in_box roots key spot (codes "module" ∷ [])) tree
-          (aside-of roots (key.module ∷ key.version ∷ spot.kernel ∷ spot.arch ∷ codes "module" ∷ []) (tells_module key.module key.version spot.kernel spot.arch)) p in
+      directory_aside roots P spared (in_box roots key spot (codes "module" ∷ [])) tree
+      (aside-of roots (key.module ∷ key.version ∷ spot.kernel ∷ spot.arch ∷ codes "module" ∷ []) (tells_module key.module key.version spot.kernel spot.arch)) p in
       let put = file_placed roots P spared key.module key.version spot.kernel spot.arch file built.1 false (with_directory (in_box roots key spot (codes "module" ∷ [])) tree) made in
       subst (λ d. P (with_node (child (child (in_box roots key spot []) (codes "module")) file) (node.File built.1 false) (with_directory d tree))) (sym directory-is)
       (subst (λ f. P (with_node f (node.File built.1 false) (with_directory (in_box roots key spot (codes "module" ∷ [])) tree))) (sym (file-is file)) put)
@@ -114,10 +114,11 @@ module _ (roots : Roots) (key : Key) (spot : Spot) (named : is_version key.versi
   and_file P place tree = P tree × (is_file (node_at tree (module_file roots key spot place)) ≡ true)
 
   spared_file : (P : Tree → Type 0) → IsSpared roots P → (place : Path) → IsSpared roots (and_file P place)
-  spared_file P spared place old new kept (p, file) =
-      (spared old new kept p,
-      kept-file (key.module ∷ key.version ∷ spot.kernel ∷ spot.arch ∷ codes "module" ∷ last_name place ∷ []) _ _ (file-firm (node_at old (module_file roots key spot place)) file) file
-      (kept (key.module ∷ key.version ∷ spot.kernel ∷ spot.arch ∷ codes "module" ∷ last_name place ∷ []) (both_true named refl)))
+  spared_file P spared place old new kept (p, file) = (
+    spared old new kept p,
+    kept-file (key.module ∷ key.version ∷ spot.kernel ∷ spot.arch ∷ codes "module" ∷ last_name place ∷ []) _ _ (file-firm (node_at old (module_file roots key spot place)) file) file
+        (kept (key.module ∷ key.version ∷ spot.kernel ∷ spot.arch ∷ codes "module" ∷ last_name place ∷ []) (both_true named refl)),
+  )
 
   modules_put : (P : Tree → Type 0) → IsSpared roots P → (modules : List Module) (tree : Tree) → P tree
       → P (with_modules roots key spot modules tree) × (has_files roots (with_modules roots key spot modules tree) key spot (map (λ built. built.0) modules) ≡ true)
@@ -132,11 +133,12 @@ module _ (roots : Roots) (key : Key) (spot : Spot) (named : is_version key.versi
   is_firm tree = IsSound roots tree × (is_added roots key tree ≡ true)
 
   spared_firm : IsSpared roots is_firm
-  spared_firm old new kept (s, added) =
-      (sound_kept roots old new kept s,
-      ap (λ n. says (source_text roots key) (link_text n)) (added-kept roots old new kept key.module key.version named added) ∙ added)
+  spared_firm old new kept (s, added) = (
+    sound_kept roots old new kept s,
+    ap (λ n. says (source_text roots key) (link_text n)) (added-kept roots old new kept key.module key.version named added) ∙ added,
+  )
 
-  build_sound : is_kernel spot.kernel ≡ true → (modules : List Module) (log : List ℕ) (store : Tree) → is_added roots key store ≡ true → are_targets (map (λ built. built.0) modules) ≡ true → IsSound roots store
+  pub build_sound : is_kernel spot.kernel ≡ true → (modules : List Module) (log : List ℕ) (store : Tree) → is_added roots key store ≡ true → are_targets (map (λ built. built.0) modules) ≡ true → IsSound roots store
       → IsSound roots (build_step roots key spot modules log store)
   unfolding build_step
   build_sound kernel modules log store added fit s =
@@ -148,7 +150,7 @@ module _ (roots : Roots) (key : Key) (spot : Spot) (named : is_version key.versi
       let p1 = directory_aside roots is_firm spared_firm (roots.dkms ++ key.module ∷ []) store (aside-of roots (key.module ∷ []) refl) (s, added) in
       let p2 = directory_aside roots is_firm spared_firm version t1 (aside-of roots (key.module ∷ key.version ∷ []) (tells_version key.module key.version named)) p1 in
       let p3 = directory_aside roots is_firm spared_firm (roots.dkms ++ key.module ∷ key.version ∷ spot.kernel ∷ []) t2
-          (aside-of roots (key.module ∷ key.version ∷ spot.kernel ∷ []) (and_no (is_version key.version) (bytes_eq spot.kernel (codes "source")) (kernel_no_source spot.kernel kernel))) p2 in
+      (aside-of roots (key.module ∷ key.version ∷ spot.kernel ∷ []) (and_no (is_version key.version) (bytes_eq spot.kernel (codes "source")) (kernel_no_source spot.kernel kernel))) p2 in
       let p4 = directory_aside roots is_firm spared_firm (in_box roots key spot []) t3 (aside-of roots (key.module ∷ key.version ∷ spot.kernel ∷ spot.arch ∷ []) refl) p3 in
       let t5 = placed (in_box roots key spot []) (codes "log" ∷ codes "make.log" ∷ []) (node.File log false) t4 in
       let p5 = placed_so roots is_firm spared_firm (in_box roots key spot []) (codes "log") (codes "make.log" ∷ []) (node.File log false) t4 log_aside p4 in

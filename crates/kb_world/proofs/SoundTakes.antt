@@ -72,12 +72,12 @@ source_gone roots word version tree unbuilt s = record {
       let stood = ap is_some (sym e) ∙ stands in
       let b = s.boxes w v k a named spotted stood in
       let kept = source_same w v (by_test (is_under (w ∷ v ∷ codes "source" ∷ []) names) (λ under.
-          let split = under-split (w ∷ v ∷ codes "source" ∷ []) names under in
-          let w_is : w ≡ word = cc in
-          let v_is : v ≡ version = cc in
-          let none : is_some (node_at tree (targets_path roots (key_of w v) (spot_of k a))) ≡ false =
-          ap (λ x. is_some (node_at tree (targets_path roots (key_of x v) (spot_of k a)))) w_is ∙ ap (λ x. is_some (node_at tree (targets_path roots (key_of word x) (spot_of k a)))) v_is ∙ unbuilt k a spotted in
-          untrue (sym none ∙ stood))) in
+      let split = under-split (w ∷ v ∷ codes "source" ∷ []) names under in
+      let w_is : w ≡ word = cc in
+      let v_is : v ≡ version = cc in
+      let none : is_some (node_at tree (targets_path roots (key_of w v) (spot_of k a))) ≡ false =
+      ap (λ x. is_some (node_at tree (targets_path roots (key_of x v) (spot_of k a)))) w_is ∙ ap (λ x. is_some (node_at tree (targets_path roots (key_of word x) (spot_of k a)))) v_is ∙ unbuilt k a spotted in
+      untrue (sym none ∙ stood))) in
       box-so roots tree new (key_of w v) (spot_of k a) (ap is_some kept ∙ b.stands) e
       (λ place file. ap is_file (left-apart roots names tree (w ∷ v ∷ k ∷ a ∷ codes "module" ∷ last_name place ∷ []) (below_kernel w v k a word version (codes "module" ∷ last_name place ∷ []) kernel)) ∙ file) b;
   links = λ w name spot named told stands.
@@ -85,7 +85,7 @@ source_gone roots word version tree unbuilt s = record {
       let kernel = first_so (is_kernel spot.kernel) (is_arch spot.arch) (link_spotted name spot told) in
       link-so roots tree new w spot (roots.dkms ++ w ∷ name ∷ []) e
       (λ v is told_too was. built-so roots tree new (key_of w v) spot
-          (left-apart roots names tree (w ∷ v ∷ spot.kernel ∷ spot.arch ∷ codes "targets" ∷ []) (below_kernel w v spot.kernel spot.arch word version (codes "targets" ∷ []) kernel)) was)
+      (left-apart roots names tree (w ∷ v ∷ spot.kernel ∷ spot.arch ∷ codes "targets" ∷ []) (below_kernel w v spot.kernel spot.arch word version (codes "targets" ∷ []) kernel)) was)
       (s.links w name spot named told (ap is_some (sym e) ∙ stands));
 }
   where
@@ -120,7 +120,7 @@ box_gone roots word version kernel arch tree unlinked s = record {
       let e = left-apart roots names tree (w ∷ name ∷ []) (shorter w name) in
       link-so roots tree new w link_spot (roots.dkms ++ w ∷ name ∷ []) e
       (λ v is told_too was. built-so roots tree new (key_of w v) link_spot
-          (left-apart roots names tree (w ∷ v ∷ link_spot.kernel ∷ link_spot.arch ∷ codes "targets" ∷ []) (by_test (is_under (w ∷ v ∷ link_spot.kernel ∷ link_spot.arch ∷ codes "targets" ∷ []) names) (λ under. linked w name link_spot told v told_too was under))) was)
+      (left-apart roots names tree (w ∷ v ∷ link_spot.kernel ∷ link_spot.arch ∷ codes "targets" ∷ []) (by_test (is_under (w ∷ v ∷ link_spot.kernel ∷ link_spot.arch ∷ codes "targets" ∷ []) names) (λ under. linked w name link_spot told v told_too was under))) was)
       (s.links w name link_spot named told (ap is_some (sym e) ∙ stands));
 }
   where

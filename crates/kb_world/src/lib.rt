@@ -26,7 +26,7 @@ pub use refusal::{Refusal, bad_boot_line, bad_root_line, fault_line, message, no
 pub use roots::Roots;
 pub use sink::{Sink, SinkError};
 pub use stop::Stop;
-pub use store_laws::targets_are_read_back;
+pub use store_laws::{no_step_damages, targets_are_read_back};
 pub use text::{Bytes, Text, Texts};
 pub use tree::{Kind, Node};
 pub use world::{World, WorldError};
