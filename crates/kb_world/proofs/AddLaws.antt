@@ -1,19 +1,19 @@
 -- What the step Add does to a store.
-use Rattle.std.proofs.Common.{◌≡◌, ◌≢◌, ℕ, ◌+◌, Bool, true, false, cond, ◌&&◌, ◌||◌, List, [], ◌∷◌, ◌++◌, length, Option, Some, None, is_some, refl, sym, ap, ◌∙◌, subst, arith, length-append}
+use Rattle.std.proofs.Common.{◌≡◌, ◌≢◌, ℕ, ◌+◌, Bool, true, false, ◌||◌, List, [], ◌∷◌, ◌++◌, length, Option, Some, None, refl, sym, ap, ◌∙◌, subst, arith, length-append}
 use Rattle.std.specs.Prelude.{bytes_eq, codes}
 use Rattle.std.specs.Option.{option_or}
 use Rattle.std.specs.Cmp.{first_so, second_so}
 use Rattle.std.specs.Cmp.Derive.{both_true}
 use Rattle.std.specs.Cmp.Lexicographic.{bytes_decides}
-use Rattle.kb_world.specs.Path.{Path, child, path_text}
-use Rattle.kb_world.specs.Tree.{Tree, node_at, with_node, is_dir, link_text}
+use Rattle.kb_world.specs.Path.{Path, child}
+use Rattle.kb_world.specs.Tree.{Tree, node_at, is_dir, link_text}
 use Rattle.kb_world.specs.TreeLaws.{same_path, same_path-true, same_path-refl, with_node-here, with_node-apart}
 use Rattle.kb_world.specs.Store.{is_added, same_key, says, module_path, version_path, link_path, source_text}
 use Rattle.kb_world.specs.Steps.{with_directory, blocking, add_step, add_blocked}
 use Rattle.kb_world.specs.declared.roots.Roots.{Roots}
 use Rattle.kb_world.specs.declared.job.Key.{Key}
 use Rattle.kb_world.specs.declared.tree.Node.TheVariants as node
-use Rattle.kb_world.proofs.StepLaws.{child-other, grandchild-other, directory-here, directory-apart, blocking-same}
+use Rattle.kb_world.proofs.StepLaws.{child-other, directory-here, directory-apart, blocking-same}
 use Rattle.kb_world.proofs.PathLaws.{by_test}
 
 -- the last names of two paths that are one

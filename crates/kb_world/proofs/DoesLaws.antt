@@ -3,7 +3,7 @@ use Rattle.std.proofs.Common.{◌≡◌, ◌≤◌, ℕ, List, ◌++◌, Option,
 use Rattle.std.proofs.lemmas.List.{append-nil}
 use Rattle.std.specs.Prelude.{IsErrOf, Result, Ok, Err, option_map}
 use Rattle.kb_world.specs.Tree.{Tree}
-use Rattle.kb_world.specs.State.{State, HasCause, Rose}
+use Rattle.kb_world.specs.State.{State, HasCause, Rose, Lasts, RanNone}
 use Rattle.kb_world.specs.Public.{public_tree, foreign_tree}
 use Rattle.kb_world.specs.Outcome.{Outcome, Action, refuse_if, unless, transaction, go_on, ◌then◌}
 use Rattle.kb_world.specs.Does.{CameAbout, Does, Decides, Transforms, Answers}
@@ -26,11 +26,13 @@ cause_then error old mid new first second a b = record {
   never = λ is failed. b.never (a.steady is) failed;
 }
 
--- ---- an action that may be refused first
+pub lasts_then : (old mid new : State) → Lasts old mid → Lasts mid new → Lasts old new
+lasts_then old mid new a b = record { roots = b.roots ∙ a.roots; script = b.script ∙ a.script; told = b.told ∙ a.told }
 
--- the refusal reads what is public alone
-abbrev pub IsShown : Roots → (Tree → Option Refusal) → Type 0
-IsShown roots due = (tree : Tree) → due tree ≡ due (public_tree roots tree)
+pub ran_none_then : (old mid new : State) → RanNone old mid → RanNone mid new → RanNone old new
+ran_none_then old mid new a b = record { ran = b.ran ∙ a.ran; lasts = lasts_then old mid new a.lasts b.lasts }
+
+-- ---- an action that may be refused first
 
 pub unless_refused : (due : Tree → Option Refusal) (second : Action) (store foreign : Tree) (refusal : Refusal) → due store ≡ Some refusal
     → (unless due then second) store foreign ≡ refuse_if (Some refusal) store foreign
@@ -40,14 +42,15 @@ pub unless_passed : (due : Tree → Option Refusal) (second : Action) (store for
 unless_passed due second store foreign is = ap (λ d. go_on store (refuse_if d store foreign) second) is
 
 -- a refusal, and the tree and the report as they were
-pub came_refused : (roots : Roots) (due : Tree → Option Refusal) (second : Action) (tree : Tree) (now : Option Tree) (refusal : Refusal) (report : Report)
-    → due (public_tree roots tree) ≡ Some refusal → now ≡ Some tree
-    → CameAbout roots (public_tree roots tree) ((unless due then second) (public_tree roots tree) (foreign_tree roots tree)) (Some refusal) now report report
-came_refused roots due second tree now refusal report is told =
-    let P : Outcome → Type 0 = λ outcome. CameAbout roots (public_tree roots tree) outcome (Some refusal) now report report in
+pub came_refused : (roots : Roots) (due : Tree → Option Refusal) (second : Action) (tree : Tree) (old mid : State) (refusal : Refusal) (report : Report)
+    → due (public_tree roots tree) ≡ Some refusal → mid.tree ≡ Some tree → mid.ran ≡ old.ran
+    → CameAbout roots (public_tree roots tree) ((unless due then second) (public_tree roots tree) (foreign_tree roots tree)) (Some refusal) old mid report report
+came_refused roots due second tree old mid refusal report is told ran =
+    let P : Outcome → Type 0 = λ outcome. CameAbout roots (public_tree roots tree) outcome (Some refusal) old mid report report in
     subst P (sym (unless_refused due second (public_tree roots tree) (foreign_tree roots tree) refusal is)) (record {
       end = refl;
       tree = (tree, told, record { public_part = refl; foreign_part = refl });
+      ran = ran ∙ sym (append-nil old.ran);
       out = sym (append-nil report.out);
       err = sym (append-nil report.err);
     })
@@ -57,12 +60,20 @@ pub does_refused : (roots : Roots) (read due : Tree → Option Refusal) (second 
     → ((tree : Tree) → read tree ≡ due (public_tree roots tree)) → Decides read {T = Unit {0}} old mid (Err stop)
     → Does roots (unless due then second) {T = Unit {0}} old mid report report (Err stop)
 does_refused roots read due second old mid report (Refused refusal) same d = record {
-  answers = λ tree told. came_refused roots due second tree mid.tree refusal report (sym (same tree) ∙ d.agrees tree told) (d.tree ∙ told);
-  same_roots = d.roots;
+  answers = λ tree told. came_refused roots due second tree old mid refusal report (sym (same tree) ∙ d.agrees tree told) (d.tree ∙ told) d.ran_none.ran;
+  lasts = d.ran_none.lasts;
   cause = d.cause;
 }
-does_refused roots read due second old mid report Fault same d = record { answers = λ tree told. tt; same_roots = d.roots; cause = d.cause }
-does_refused roots read due second old mid report NoMemory same d = record { answers = λ tree told. tt; same_roots = d.roots; cause = d.cause }
+does_refused roots read due second old mid report Fault same d = record { answers = λ tree told. tt; lasts = d.ran_none.lasts; cause = d.cause }
+does_refused roots read due second old mid report NoMemory same d = record { answers = λ tree told. tt; lasts = d.ran_none.lasts; cause = d.cause }
+
+-- what came about since a moment at which no child had run, came about since an earlier one
+answers_since : (roots : Roots) (store : Tree) (outcome : Outcome) (old mid new : State) (before after : Report) (result : Result (Unit {0}) Stop) → mid.ran ≡ old.ran
+    → Answers roots store outcome result mid new before after → Answers roots store outcome result old new before after
+answers_since roots store outcome old mid new before after (Ok u) ran a = record { end = a.end; tree = a.tree; ran = a.ran ∙ ap (λ so_far. so_far ++ outcome.requests) ran; out = a.out; err = a.err }
+answers_since roots store outcome old mid new before after (Err (Refused refusal)) ran a = record { end = a.end; tree = a.tree; ran = a.ran ∙ ap (λ so_far. so_far ++ outcome.requests) ran; out = a.out; err = a.err }
+answers_since roots store outcome old mid new before after (Err Fault) ran a = tt
+answers_since roots store outcome old mid new before after (Err NoMemory) ran a = tt
 
 -- it wasn't, and the second part does what it does
 pub does_passed : (roots : Roots) (read due : Tree → Option Refusal) (second : Action) (old mid new : State) (before after : Report) (result : Result (Unit {0}) Stop)
@@ -70,9 +81,11 @@ pub does_passed : (roots : Roots) (read due : Tree → Option Refusal) (second :
     → Does roots (unless due then second) old new before after result
 does_passed roots read due second old mid new before after result same d e = record {
   answers = λ tree told.
-      let P : Outcome → Type 0 = λ outcome. Answers roots (public_tree roots tree) outcome result new.tree before after in
-      subst P (sym (unless_passed due second (public_tree roots tree) (foreign_tree roots tree) (sym (same tree) ∙ d.agrees tree told))) (e.answers tree (d.tree ∙ told));
-  same_roots = e.same_roots ∙ d.roots;
+      let P : Outcome → Type 0 = λ outcome. Answers roots (public_tree roots tree) outcome result old new before after in
+      let second_outcome = second (public_tree roots tree) (foreign_tree roots tree) in
+      subst P (sym (unless_passed due second (public_tree roots tree) (foreign_tree roots tree) (sym (same tree) ∙ d.agrees tree told)))
+      (answers_since roots (public_tree roots tree) second_outcome old mid new before after result d.ran_none.ran (e.answers tree (d.tree ∙ told)));
+  lasts = lasts_then old mid new d.ran_none.lasts e.lasts;
   cause = cause_then Fault old mid new (Ok tt) result d.cause e.cause;
 }
 
@@ -84,15 +97,16 @@ pub does_transaction : (roots : Roots) (change step : Tree → Tree) (line : Lis
     → Does roots (transaction step line) old new before after result
 does_transaction roots change step line old new before after result steps keeps t out err = record {
   answers = λ tree told. by_result result t tree told;
-  same_roots = t.roots;
+  lasts = t.ran_none.lasts;
   cause = t.cause;
 }
   where
     by_result : (r : Result (Unit {0}) Stop) → Transforms change old new r → (tree : Tree) → old.tree ≡ Some tree
-        → Answers roots (public_tree roots tree) (transaction step line (public_tree roots tree) (foreign_tree roots tree)) r new.tree before after
+        → Answers roots (public_tree roots tree) (transaction step line (public_tree roots tree) (foreign_tree roots tree)) r old new before after
     by_result (Ok u) t tree told = record {
       end = refl;
       tree = (change tree, t.done ∙ ap (option_map change) told, record { public_part = steps tree; foreign_part = keeps tree });
+      ran = t.ran_none.ran ∙ sym (append-nil old.ran);
       out = out;
       err = err ∙ sym (append-nil before.err);
     }

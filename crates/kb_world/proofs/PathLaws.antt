@@ -1,6 +1,7 @@
 -- Which paths lie below which.
-use Rattle.std.proofs.Common.{◌≡◌, ℕ, Bool, true, false, ◌&&◌, not, List, [], ◌∷◌, ◌++◌, length, drop, refl, sym, ap, ◌∙◌, subst, inl, inr, ◌⊎◌}
+use Rattle.std.proofs.Common.{◌≡◌, ℕ, Bool, true, false, ◌&&◌, ◌||◌, not, List, [], ◌∷◌, ◌++◌, length, drop, Some, None, refl, sym, ap, ◌∙◌, subst, inl, inr, ◌⊎◌}
 use Rattle.std.specs.Prelude.{bytes_eq}
+use Rattle.std.specs.List.{slice_get}
 use Rattle.std.specs.Cmp.{first_so, second_so}
 use Rattle.std.specs.Cmp.Derive.{both_true}
 use Rattle.std.specs.Cmp.Lexicographic.{bytes_decides}
@@ -76,3 +77,48 @@ apart-back a b h = both_true (second_so (not (is_under a b)) _ h) (first_so (not
 pub drop-front : (a p : Path) → drop (length a) (a ++ p) ≡ p
 drop-front [] p = refl
 drop-front (n ∷ a) p = drop-front a p
+
+some_same : (a b : List ℕ) → Some a ≡ Some b → a ≡ b
+some_same a b e = cc
+
+and_true : (b : Bool) → (b && true) ≡ b
+and_true true = refl
+and_true false = refl
+
+-- of a path below a directory, the first name behind it tells whether it is under that entry
+pub under_entry : (p a : Path) (name first : List ℕ) (names : Path) → is_under p a ≡ true → names ≡ drop (length a) p → slice_get names 0 ≡ Some first
+    → is_under p (a ++ name ∷ []) ≡ bytes_eq name first
+under_entry p [] name first [] h e f = let q : None ≡ Some first = f in cc
+under_entry p [] name first (n ∷ rest) h e f =
+    let same : n ≡ first = some_same n first f in
+    ap (λ q. is_under q (name ∷ [])) (sym e) ∙ and_true (bytes_eq name n) ∙ ap (bytes_eq name) same
+under_entry [] (n ∷ a) name first names h e f = let q : true ≡ false = sym h in cc
+under_entry (m ∷ p) (n ∷ a) name first names h e f =
+    ap (λ b. b && is_under p (a ++ name ∷ [])) (first_so (bytes_eq n m) _ h) ∙ under_entry p a name first names (second_so (bytes_eq n m) _ h) e f
+
+-- the directory itself isn't
+pub under_no_entry : (p a : Path) (name : List ℕ) (names : Path) → is_under p a ≡ true → names ≡ drop (length a) p → names ≡ [] → is_under p (a ++ name ∷ []) ≡ false
+under_no_entry p [] name names h e f = ap (λ q. is_under q (name ∷ [])) (sym e ∙ f)
+under_no_entry [] (n ∷ a) name names h e f = let q : true ≡ false = sym h in cc
+under_no_entry (m ∷ p) (n ∷ a) name names h e f =
+    ap (λ b. b && is_under p (a ++ name ∷ [])) (first_so (bytes_eq n m) _ h) ∙ under_no_entry p a name names (second_so (bytes_eq n m) _ h) e f
+
+-- nor is what isn't under the directory
+pub under_other : (p a : Path) (name : List ℕ) → is_under p a ≡ false → is_under p (a ++ name ∷ []) ≡ false
+under_other p a name h = by_test (is_under p (a ++ name ∷ [])) (λ k. let q : true ≡ false = sym (under-above p a (name ∷ []) k) ∙ h in cc)
+
+-- seven tests, one after another or nested
+pub regrouped : (a b c d e f g : Bool) → ((((((a || b) || c) || d) || e) || f) || g) ≡ (a || (b || (c || (d || (e || (f || (g || false)))))))
+regrouped true b c d e f g = refl
+regrouped false true c d e f g = refl
+regrouped false false true d e f g = refl
+regrouped false false false true e f g = refl
+regrouped false false false false true f g = refl
+regrouped false false false false false true g = refl
+regrouped false false false false false false true = refl
+regrouped false false false false false false false = refl
+
+pub regrouped_as : (a b c d e f g p q r s t u v : Bool) → a ≡ p → b ≡ q → c ≡ r → d ≡ s → e ≡ t → f ≡ u → g ≡ v
+    → ((((((a || b) || c) || d) || e) || f) || g) ≡ (p || (q || (r || (s || (t || (u || (v || false)))))))
+regrouped_as a b c d e f g p q r s t u v ha hb hc hd he hf hg =
+    (λ i. ((((((ha i || hb i) || hc i) || hd i) || he i) || hf i) || hg i)) ∙ regrouped p q r s t u v

@@ -7,13 +7,13 @@ use Rattle.std.specs.Cmp.Derive.{both_true}
 use Rattle.std.specs.Cmp.Lexicographic.{bytes_decides}
 use Rattle.kb_world.specs.Names.{is_word, is_version, is_kernel, is_arch}
 use Rattle.kb_world.specs.Path.{Path, child, is_under, are_apart}
-use Rattle.kb_world.specs.Tree.{Tree, node_at, with_node, is_dir, is_file, link_text}
+use Rattle.kb_world.specs.Tree.{Tree, node_at, with_node, is_dir, is_file, link_text, file_bytes}
 use Rattle.kb_world.specs.TreeLaws.{same_path, same_path-true}
 use Rattle.kb_world.specs.Roots.{AreApart}
 use Rattle.kb_world.specs.Store.{is_key, is_added, link_path, says}
-use Rattle.kb_world.specs.Targets.{file_bytes, last_name, targets_of}
+use Rattle.kb_world.specs.Targets.{last_name, targets_of}
 use Rattle.kb_world.specs.Boxes.{is_spot, targets_path, module_file, places_at, is_built, has_files, boxed, kernel_link_name, kernel_link_path, kernel_link_text, linked_at, installed, key_of, version_of, spot_of_link}
-use Rattle.kb_world.specs.Steps.{all_placed, without, tidied_above, taken, in_kernel, installed_places, is_displaced, install_step, restored, kept_files, displaced, in_chest, built_modules, uninstall_step, unbuild_step, unadd_step}
+use Rattle.kb_world.specs.Steps.{all_placed, cleared, tidied_above, taken, in_kernel, installed_places, is_displaced, install_step, restored, kept_files, displaced, in_chest, built_modules, uninstall_step, unbuild_step, unadd_step}
 use Rattle.kb_world.specs.declared.roots.Roots.{Roots}
 use Rattle.kb_world.specs.declared.job.Key.{Key}
 use Rattle.kb_world.specs.declared.job.Spot.{Spot}
@@ -74,7 +74,7 @@ pub install_sound : (roots : Roots) → AreApart roots → (word version kernel 
     → IsSound roots store → IsSound roots (install_step roots (key_of word version) (spot_of kernel arch) store)
 unfolding install_step
 install_sound roots apart word version kernel arch store named spotted built s =
-    let t1 = without freed store in
+    let t1 = cleared freed store in
     let p1 = without_aside roots is_ready spared_ready freed store
     (λ names h. or_none roots apart _ _ (no_place roots apart kernel (unwrap_or (option_and_then (λ v. boxed roots store (key_of word v) spot) (installed roots store word spot)) []) names) (not_displaced roots apart store kernel places names)) (s, built) in
     let t2 = all_placed (roots.dkms ++ word ∷ []) (codes "original_module") (in_chest spot (displaced roots store kernel places)) t1 in
@@ -111,7 +111,7 @@ restored_sound roots apart key spot store s = by (is_dir (node_at store (in_kern
     places = installed_places roots store key.module spot
 
     emptied : Tree
-    emptied = without (λ path. list_any (same_path path) places) store
+    emptied = cleared (λ path. list_any (same_path path) places) store
 
     by : (there : Bool) → IsSound roots (cond there (all_placed roots.modules spot.kernel (kept_files roots store key.module spot) emptied) store)
     by true =
@@ -134,14 +134,14 @@ chest_gone roots word kernel arch tree s =
 link_name_no_version : (spot : Spot) → is_version (kernel_link_name spot) ≡ false
 link_name_no_version spot = and_false (is_word (kernel_link_name spot) && not (bytes_eq (kernel_link_name spot) (codes "original_module")))
 
-link_goes : (roots : Roots) (word : List ℕ) (spot : Spot) (tree : Tree) → Keeps roots tree (without (below_entry roots (word ∷ kernel_link_name spot ∷ [])) tree)
+link_goes : (roots : Roots) (word : List ℕ) (spot : Spot) (tree : Tree) → Keeps roots tree (cleared (below_entry roots (word ∷ kernel_link_name spot ∷ [])) tree)
 link_goes roots word spot tree names h = by names h (is_under names link) refl
   where
     link : Path
     link = word ∷ kernel_link_name spot ∷ []
 
     new : Tree
-    new = without (below_entry roots link) tree
+    new = cleared (below_entry roots link) tree
 
     no_version : (v : List ℕ) (b : Bool) → v ≡ kernel_link_name spot → (is_version v && b) ≡ true → ⊥
     no_version v b is told = untrue (sym (ap is_version is ∙ link_name_no_version spot) ∙ first_so (is_version v) b told)
@@ -176,7 +176,7 @@ spared_free roots word spot named old new kept (s, none) =
 link_taken : (roots : Roots) (word : List ℕ) (spot : Spot) (tree : Tree) → is_some (spot_of_link (kernel_link_name spot)) ≡ true → IsSound roots tree → IsFree roots word spot (taken roots.dkms (word ∷ kernel_link_name spot ∷ []) tree)
 link_taken roots word spot tree named s =
     taken_so roots (IsFree roots word spot) (spared_free roots word spot named) roots.dkms (word ∷ kernel_link_name spot ∷ []) tree (
-      sound_kept roots tree (without (below_entry roots (word ∷ kernel_link_name spot ∷ [])) tree) (link_goes roots word spot tree) s,
+      sound_kept roots tree (cleared (below_entry roots (word ∷ kernel_link_name spot ∷ [])) tree) (link_goes roots word spot tree) s,
       left-none roots (word ∷ kernel_link_name spot ∷ []) tree (word ∷ kernel_link_name spot ∷ []) (under-self (word ∷ kernel_link_name spot ∷ [])),
     )
 

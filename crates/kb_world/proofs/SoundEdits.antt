@@ -10,7 +10,7 @@ use Rattle.kb_world.specs.Path.{Path, child, is_under}
 use Rattle.kb_world.specs.Tree.{Tree, node_at, with_node, is_dir, is_file}
 use Rattle.kb_world.specs.TreeLaws.{same_path, same_path-true, paths_exact, node_at-with_node, with_node-apart, node_at-remove}
 use Rattle.kb_world.specs.Roots.{is_below}
-use Rattle.kb_world.specs.Steps.{with_directory, placed, all_placed, without, tidied, tidied_above, taken}
+use Rattle.kb_world.specs.Steps.{with_directory, placed, all_placed, cleared, tidied, tidied_above, taken}
 use Rattle.kb_world.specs.declared.roots.Roots.{Roots}
 use Rattle.kb_world.specs.declared.tree.Node.{Node}
 use Rattle.kb_world.specs.declared.tree.Node.TheVariants as node
@@ -25,8 +25,8 @@ pub aside-of : (roots : Roots) (other : Path) → tells other ≡ false → IsAs
 aside-of roots other none names h e =
     let impossible : true ≡ false = sym h ∙ ap tells (append_cancel_left roots.dkms names other e) ∙ none in cc
 
-pub node_at-without : (test : Path → Bool) (tree : Tree) (q : Path) → node_at (without test tree) q ≡ cond (not (test q)) (node_at tree q) None
-node_at-without test tree q = get-retain_keys tree (λ path. not (test path)) q (λ x tied. ap (λ path. not (test path)) (sym (paths_exact q x tied)))
+pub node_at-cleared : (test : Path → Bool) (tree : Tree) (q : Path) → node_at (cleared test tree) q ≡ cond (not (test q)) (node_at tree q) None
+node_at-cleared test tree q = get-retain_keys tree (λ path. not (test path)) q (λ x tied. ap (λ path. not (test path)) (sym (paths_exact q x tied)))
 
 -- such a change keeps it
 abbrev pub IsSpared : Roots → (Tree → Type 0) → Type 0
@@ -55,9 +55,9 @@ module _ (roots : Roots) (P : Tree → Type 0) (spared : IsSpared roots P) where
   pub directory_aside : (path : Path) (tree : Tree) → IsAside roots path → P tree → P (with_directory path tree)
   directory_aside path tree aside = spared tree (with_directory path tree) (λ names h. same (directory-apart path tree (roots.dkms ++ names) (aside names h)))
 
-  pub without_aside : (test : Path → Bool) (tree : Tree) → ((names : Path) → tells names ≡ true → test (roots.dkms ++ names) ≡ false) → P tree → P (without test tree)
-  without_aside test tree passed = spared tree (without test tree)
-      (λ names h. same (node_at-without test tree (roots.dkms ++ names) ∙ ap (λ b. cond (not b) (node_at tree (roots.dkms ++ names)) None) (passed names h)))
+  pub without_aside : (test : Path → Bool) (tree : Tree) → ((names : Path) → tells names ≡ true → test (roots.dkms ++ names) ≡ false) → P tree → P (cleared test tree)
+  without_aside test tree passed = spared tree (cleared test tree)
+      (λ names h. same (node_at-cleared test tree (roots.dkms ++ names) ∙ ap (λ b. cond (not b) (node_at tree (roots.dkms ++ names)) None) (passed names h)))
 
   -- a file for a module
   pub file_placed : (word version kernel arch file : List ℕ) (bytes : List ℕ) (exec : Bool) (tree : Tree) → P tree
@@ -95,11 +95,11 @@ module _ (roots : Roots) (P : Tree → Type 0) (spared : IsSpared roots P) where
   tidied_above_so base (name ∷ next ∷ rest) tree s = tidied_so (child base name) (tidied_above (child base name) (next ∷ rest) tree) (tidied_above_so (child base name) (next ∷ rest) tree s)
 
   -- what is taken away with the directories above it
-  pub taken_so : (base names : Path) (tree : Tree) → P (without (λ path. is_under path (base ++ names)) tree) → P (taken base names tree)
+  pub taken_so : (base names : Path) (tree : Tree) → P (cleared (λ path. is_under path (base ++ names)) tree) → P (taken base names tree)
   taken_so base names tree left = by (list_any (λ path. is_under path (base ++ names)) (keys tree))
     where
-      by : (any : Bool) → P (cond any (tidied_above base names (without (λ path. is_under path (base ++ names)) tree)) (without (λ path. is_under path (base ++ names)) tree))
-      by true = tidied_above_so base names (without (λ path. is_under path (base ++ names)) tree) left
+      by : (any : Bool) → P (cond any (tidied_above base names (cleared (λ path. is_under path (base ++ names)) tree)) (cleared (λ path. is_under path (base ++ names)) tree))
+      by true = tidied_above_so base names (cleared (λ path. is_under path (base ++ names)) tree) left
       by false = left
 
   pub placed_so : (base : Path) (name : List ℕ) (rest : Path) (at : Node) (tree : Tree) → IsAsideBelow roots (child base name) → P tree → P (placed base (name ∷ rest) at tree)

@@ -8,13 +8,13 @@ use Rattle.std.specs.Cmp.Derive.{both_true}
 use Rattle.std.specs.Cmp.Lexicographic.{bytes_decides}
 use Rattle.kb_world.specs.Names.{is_word, is_version}
 use Rattle.kb_world.specs.Path.{Path, child, is_under}
-use Rattle.kb_world.specs.Tree.{Tree, node_at, with_node, is_dir, is_file, link_text}
+use Rattle.kb_world.specs.Tree.{Tree, node_at, with_node, is_dir, is_file, link_text, file_bytes}
 use Rattle.kb_world.specs.TreeLaws.{same_path, same_path-true, same_path-refl, paths_exact, node_at-with_node, with_node-here, with_node-apart, node_at-remove}
 use Rattle.kb_world.specs.Roots.{is_below}
 use Rattle.kb_world.specs.Store.{is_key, is_added, link_path, source_text, says}
-use Rattle.kb_world.specs.Targets.{file_bytes, last_name, targets_of}
+use Rattle.kb_world.specs.Targets.{last_name, targets_of}
 use Rattle.kb_world.specs.Boxes.{is_spot, targets_path, module_file, places_at, is_built, has_files, spot_of_link, spot_tail, version_of, kernel_link_text, linked_at, key_of}
-use Rattle.kb_world.specs.Steps.{with_directory, placed, all_placed, without, tidied, tidied_above, taken}
+use Rattle.kb_world.specs.Steps.{with_directory, placed, all_placed, cleared, tidied, tidied_above, taken}
 use Rattle.kb_world.specs.declared.roots.Roots.{Roots}
 use Rattle.kb_world.specs.declared.job.Key.{Key}
 use Rattle.kb_world.specs.declared.job.Spot.{Spot}

@@ -8,10 +8,10 @@ use Rattle.std.specs.Cmp.Derive.{both_true}
 use Rattle.std.specs.Cmp.Lexicographic.{bytes_decides}
 use Rattle.kb_world.specs.Names.{is_word, is_version, is_kernel, is_arch}
 use Rattle.kb_world.specs.Path.{Path}
-use Rattle.kb_world.specs.Tree.{Tree, node_at, with_node, is_file, link_text}
+use Rattle.kb_world.specs.Tree.{Tree, node_at, with_node, is_file, link_text, file_bytes}
 use Rattle.kb_world.specs.TreeLaws.{same_path, same_path-true, node_at-with_node, with_node-apart}
 use Rattle.kb_world.specs.Store.{is_key, is_added, link_path, source_text, says}
-use Rattle.kb_world.specs.Targets.{file_bytes, last_name, are_targets, targets_text, targets_of}
+use Rattle.kb_world.specs.Targets.{last_name, are_targets, targets_text, targets_of}
 use Rattle.kb_world.specs.Boxes.{is_spot, targets_path, module_file, places_at, is_built, has_files, kernel_link_name, spot_of_link, kernel_link_path, kernel_link_text, version_of, linked_at, key_of}
 use Rattle.kb_world.specs.declared.roots.Roots.{Roots}
 use Rattle.kb_world.specs.declared.job.Key.{Key}

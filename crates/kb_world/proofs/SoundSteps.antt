@@ -8,14 +8,14 @@ use Rattle.std.specs.Cmp.Derive.{both_true}
 use Rattle.std.specs.Cmp.Lexicographic.{bytes_decides}
 use Rattle.kb_world.specs.Names.{is_word, is_version, is_kernel, is_arch}
 use Rattle.kb_world.specs.Path.{Path, child, is_under, are_apart}
-use Rattle.kb_world.specs.Tree.{Tree, node_at, with_node, is_dir, is_file, link_text}
+use Rattle.kb_world.specs.Tree.{Tree, node_at, with_node, is_dir, is_file, link_text, file_bytes}
 use Rattle.kb_world.specs.TreeLaws.{same_path, same_path-true, with_node-here}
 use Rattle.kb_world.specs.Roots.{AreApart}
 use Rattle.kb_world.specs.Store.{is_key, is_added, module_path, version_path, link_path, source_text, says}
-use Rattle.kb_world.specs.Targets.{file_bytes, last_name, are_targets, targets_of}
+use Rattle.kb_world.specs.Targets.{last_name, are_targets, targets_of}
 use Rattle.kb_world.specs.Boxes.{is_spot, in_box, targets_path, module_file, places_at, is_built, has_files, boxed, kernel_link_name, kernel_link_path, kernel_link_text, linked_at, installed, key_of, version_of}
 use Rattle.kb_world.specs.Damage.{hurt}
-use Rattle.kb_world.specs.Steps.{with_directory, add_step, placed, all_placed, without, tidied, tidied_above, taken, Module, with_modules, build_step, in_kernel, installed_places, is_displaced, install_step, restored, kept_files, displaced, in_chest, built_modules, uninstall_step, unbuild_step, unadd_step}
+use Rattle.kb_world.specs.Steps.{with_directory, add_step, placed, all_placed, cleared, tidied, tidied_above, taken, Module, with_modules, build_step, in_kernel, installed_places, is_displaced, install_step, restored, kept_files, displaced, in_chest, built_modules, uninstall_step, unbuild_step, unadd_step}
 use Rattle.kb_world.specs.declared.roots.Roots.{Roots}
 use Rattle.kb_world.specs.declared.job.Key.{Key}
 use Rattle.kb_world.specs.declared.job.Spot.{Spot}

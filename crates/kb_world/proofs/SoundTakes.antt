@@ -11,7 +11,7 @@ use Rattle.kb_world.specs.Tree.{Tree, node_at, is_file, link_text}
 use Rattle.kb_world.specs.Store.{is_key, is_added, link_path, source_text, says}
 use Rattle.kb_world.specs.Targets.{last_name}
 use Rattle.kb_world.specs.Boxes.{is_spot, in_box, targets_path, module_file, is_built, kernel_link_name, spot_of_link, kernel_link_path, version_of, linked_at, key_of, chest_path}
-use Rattle.kb_world.specs.Steps.{without}
+use Rattle.kb_world.specs.Steps.{cleared}
 use Rattle.kb_world.specs.declared.roots.Roots.{Roots}
 use Rattle.kb_world.specs.declared.job.Key.{Key}
 use Rattle.kb_world.specs.declared.job.Spot.{Spot}
@@ -19,7 +19,7 @@ use Rattle.kb_world.specs.declared.tree.Node.{Node}
 use Rattle.kb_world.proofs.PathLaws.{under-beside, by_test}
 use Rattle.kb_world.proofs.DamageLaws.{spot_of, IsSoundBox, IsSound, link_names, under-split}
 use Rattle.kb_world.proofs.SoundLaws.{tells, may_go, Kept, same, gone, Keeps}
-use Rattle.kb_world.proofs.SoundEdits.{IsSpared, node_at-without}
+use Rattle.kb_world.proofs.SoundEdits.{IsSpared, node_at-cleared}
 use Rattle.kb_world.proofs.SoundPuts.{box-so, built-so, link-so}
 use Rattle.kb_world.proofs.SpotLaws.{kernel_no_source, link_spotted, link_named}
 
@@ -31,17 +31,17 @@ abbrev pub below_entry : Roots → Path → Path → Bool
 below_entry roots names path = is_under path (roots.dkms ++ names)
 
 module _ (roots : Roots) (names : Path) (tree : Tree) where
-  pub left-at : (q : Path) → node_at (without (below_entry roots names) tree) (roots.dkms ++ q) ≡ cond (not (is_under q names)) (node_at tree (roots.dkms ++ q)) None
-  left-at q = node_at-without (below_entry roots names) tree (roots.dkms ++ q) ∙ ap (λ b. cond (not b) (node_at tree (roots.dkms ++ q)) None) (under-beside roots.dkms q names)
+  pub left-at : (q : Path) → node_at (cleared (below_entry roots names) tree) (roots.dkms ++ q) ≡ cond (not (is_under q names)) (node_at tree (roots.dkms ++ q)) None
+  left-at q = node_at-cleared (below_entry roots names) tree (roots.dkms ++ q) ∙ ap (λ b. cond (not b) (node_at tree (roots.dkms ++ q)) None) (under-beside roots.dkms q names)
 
-  pub left-apart : (q : Path) → is_under q names ≡ false → node_at (without (below_entry roots names) tree) (roots.dkms ++ q) ≡ node_at tree (roots.dkms ++ q)
+  pub left-apart : (q : Path) → is_under q names ≡ false → node_at (cleared (below_entry roots names) tree) (roots.dkms ++ q) ≡ node_at tree (roots.dkms ++ q)
   left-apart q e = left-at q ∙ ap (λ b. cond (not b) (node_at tree (roots.dkms ++ q)) None) e
 
-  pub left-none : (q : Path) → is_under q names ≡ true → node_at (without (below_entry roots names) tree) (roots.dkms ++ q) ≡ None
+  pub left-none : (q : Path) → is_under q names ≡ true → node_at (cleared (below_entry roots names) tree) (roots.dkms ++ q) ≡ None
   left-none q e = left-at q ∙ ap (λ b. cond (not b) (node_at tree (roots.dkms ++ q)) None) e
 
   -- what is left there isn't below
-  pub left-stands : (q : Path) → is_some (node_at (without (below_entry roots names) tree) (roots.dkms ++ q)) ≡ true → is_under q names ≡ false
+  pub left-stands : (q : Path) → is_some (node_at (cleared (below_entry roots names) tree) (roots.dkms ++ q)) ≡ true → is_under q names ≡ false
   left-stands q stands = by_test (is_under q names) (λ e. untrue (sym (ap is_some (left-none q e)) ∙ stands))
 
 -- ---- a version's link
@@ -60,7 +60,7 @@ abbrev pub HasNoBuilds : Roots → Tree → List ℕ → List ℕ → Type 0
 HasNoBuilds roots tree word version = (kernel arch : List ℕ) → is_spot (spot_of kernel arch) ≡ true → is_some (node_at tree (targets_path roots (key_of word version) (spot_of kernel arch))) ≡ false
 
 pub source_gone : (roots : Roots) (word version : List ℕ) (tree : Tree) → HasNoBuilds roots tree word version → IsSound roots tree
-    → IsSound roots (without (below_entry roots (word ∷ version ∷ codes "source" ∷ [])) tree)
+    → IsSound roots (cleared (below_entry roots (word ∷ version ∷ codes "source" ∷ [])) tree)
 source_gone roots word version tree unbuilt s = record {
   sources = λ w v named stands.
       let here = ap (λ p. is_some (node_at new p)) (sym (link_names roots (key_of w v))) ∙ stands in
@@ -93,7 +93,7 @@ source_gone roots word version tree unbuilt s = record {
     names = word ∷ version ∷ codes "source" ∷ []
 
     new : Tree
-    new = without (below_entry roots names) tree
+    new = cleared (below_entry roots names) tree
 
     source_same : (w v : List ℕ) → is_under (w ∷ v ∷ codes "source" ∷ []) names ≡ false → node_at new (link_path roots (key_of w v)) ≡ node_at tree (link_path roots (key_of w v))
     source_same w v apart = ap (node_at new) (link_names roots (key_of w v)) ∙ left-apart roots names tree (w ∷ v ∷ codes "source" ∷ []) apart ∙ sym (ap (node_at tree) (link_names roots (key_of w v)))
@@ -105,7 +105,7 @@ abbrev pub IsUnlinked : Roots → Tree → List ℕ → List ℕ → Spot → Ty
 IsUnlinked roots tree word version spot = linked_at roots tree (kernel_link_path roots word spot) word spot ≡ Some version → ⊥
 
 pub box_gone : (roots : Roots) (word version kernel arch : List ℕ) (tree : Tree) → IsUnlinked roots tree word version (spot_of kernel arch) → IsSound roots tree
-    → IsSound roots (without (below_entry roots (word ∷ version ∷ kernel ∷ arch ∷ [])) tree)
+    → IsSound roots (cleared (below_entry roots (word ∷ version ∷ kernel ∷ arch ∷ [])) tree)
 box_gone roots word version kernel arch tree unlinked s = record {
   sources = λ w v named stands.
       let e = source_same w v in
@@ -128,7 +128,7 @@ box_gone roots word version kernel arch tree unlinked s = record {
     names = word ∷ version ∷ kernel ∷ arch ∷ []
 
     new : Tree
-    new = without (below_entry roots names) tree
+    new = cleared (below_entry roots names) tree
 
     spot : Spot
     spot = spot_of kernel arch

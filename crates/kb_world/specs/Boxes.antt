@@ -5,9 +5,9 @@ use Rattle.std.specs.FinMap.{retain_keys}
 use Rattle.std.specs.Str.{byte}
 use Rattle.kb_world.specs.Names.{is_kernel, is_arch, is_version}
 use Rattle.kb_world.specs.Path.{Path, is_under}
-use Rattle.kb_world.specs.Tree.{Tree, node_at, is_file, link_text}
+use Rattle.kb_world.specs.Tree.{Tree, node_at, is_file, link_text, file_bytes}
 use Rattle.kb_world.specs.Store.{is_added}
-use Rattle.kb_world.specs.Targets.{file_bytes, last_name, targets_of}
+use Rattle.kb_world.specs.Targets.{last_name, targets_of}
 use Rattle.kb_world.specs.declared.roots.Roots.{Roots}
 use Rattle.kb_world.specs.declared.job.Key.{Key}
 use Rattle.kb_world.specs.declared.job.Spot.{Spot}

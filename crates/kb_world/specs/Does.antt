@@ -3,7 +3,7 @@ use Rattle.std.specs.Prelude.{◌≡◌, ◌++◌, Option, Some, None, Result, O
 use Rattle.std.specs.Option.{ForSome}
 use Rattle.kb_world.specs.Tree.{Tree}
 use Rattle.kb_world.specs.Public.{public_tree, foreign_tree}
-use Rattle.kb_world.specs.State.{State, HasCause}
+use Rattle.kb_world.specs.State.{State, HasCause, Lasts, RanNone}
 use Rattle.kb_world.specs.Outcome.{Outcome, Action, last_of}
 use Rattle.kb_world.specs.declared.roots.Roots.{Roots}
 use Rattle.kb_world.specs.declared.job.Report.{Report}
@@ -23,14 +23,14 @@ Agrees (Err NoMemory) due = Unit {0}
 pub record Decides (due : Tree → Option Refusal) {T : Type 0} (old new : State) (result : Result T Stop) : Type 0 where
   pub agrees : ForSome old.tree (λ tree. Agrees result (due tree))
   pub tree : new.tree ≡ old.tree
-  pub roots : new.roots ≡ old.roots
+  pub ran_none : RanNone old new
   pub cause : HasCause Fault old new result
 
 -- The call changes the tree so, and is never refused.
 pub record Transforms (change : Tree → Tree) {T : Type 0} (old new : State) (result : Result T Stop) : Type 0 where
   pub done : OnOk result (new.tree ≡ option_map change old.tree)
   pub unrefused : (refusal : Refusal) → IsErrOf result (Refused refusal) → ⊥
-  pub roots : new.roots ≡ old.roots
+  pub ran_none : RanNone old new
   pub cause : HasCause Fault old new result
 
 -- the tree has this store, and this foreign tree
@@ -38,22 +38,23 @@ pub record IsTreeOf (roots : Roots) (store foreign tree : Tree) : Type 0 where
   pub public_part : public_tree roots tree ≡ store
   pub foreign_part : foreign_tree roots tree ≡ foreign
 
--- the outcome came about: the tree is that of its last store, and its texts were added to the report
-pub record CameAbout (roots : Roots) (store : Tree) (outcome : Outcome) (due : Option Refusal) (now : Option Tree) (before after : Report) : Type 0 where
+-- The outcome came about: the tree is that of its last store, its children ran, and its texts were added to the report.
+pub record CameAbout (roots : Roots) (store : Tree) (outcome : Outcome) (due : Option Refusal) (old new : State) (before after : Report) : Type 0 where
   pub end : outcome.end ≡ due
-  pub tree : (tree : Tree) × (now ≡ Some tree) × IsTreeOf roots (last_of store outcome.after) outcome.foreign tree
+  pub tree : (tree : Tree) × (new.tree ≡ Some tree) × IsTreeOf roots (last_of store outcome.after) outcome.foreign tree
+  pub ran : new.ran ≡ old.ran ++ outcome.requests
   pub out : after.out ≡ before.out ++ outcome.out
   pub err : after.err ≡ before.err ++ outcome.err
 
 -- where the call ends with an answer, the outcome came about
-abbrev pub Answers : {T : Type 0} → Roots → Tree → Outcome → Result T Stop → Option Tree → Report → Report → Type 0
-Answers roots store outcome (Ok value) now before after = CameAbout roots store outcome None now before after
-Answers roots store outcome (Err (Refused refusal)) now before after = CameAbout roots store outcome (Some refusal) now before after
-Answers roots store outcome (Err Fault) now before after = Unit {0}
-Answers roots store outcome (Err NoMemory) now before after = Unit {0}
+abbrev pub Answers : {T : Type 0} → Roots → Tree → Outcome → Result T Stop → State → State → Report → Report → Type 0
+Answers roots store outcome (Ok value) old new before after = CameAbout roots store outcome None old new before after
+Answers roots store outcome (Err (Refused refusal)) old new before after = CameAbout roots store outcome (Some refusal) old new before after
+Answers roots store outcome (Err Fault) old new before after = Unit {0}
+Answers roots store outcome (Err NoMemory) old new before after = Unit {0}
 
 -- The one clause of an action: over a told tree the call does it.
 pub record Does (roots : Roots) (action : Action) {T : Type 0} (old new : State) (before after : Report) (result : Result T Stop) : Type 0 where
-  pub answers : ForSome old.tree (λ tree. let store = public_tree roots tree in Answers roots store (action store (foreign_tree roots tree)) result new.tree before after)
-  pub same_roots : new.roots ≡ old.roots
+  pub answers : ForSome old.tree (λ tree. let store = public_tree roots tree in Answers roots store (action store (foreign_tree roots tree)) result old new before after)
+  pub lasts : Lasts old new
   pub cause : HasCause Fault old new result

@@ -1,13 +1,16 @@
+pub mod Area
 pub mod Boxes
 pub mod Damage
 pub mod Does
 pub mod Job
+pub mod Moves
 pub mod Names
 pub mod Outcome
 pub mod Path
 pub mod Public
 pub mod Refusal
 pub mod Roots
+pub mod Script
 pub mod SinkState
 pub mod State
 pub mod Steps
@@ -16,3 +19,4 @@ pub mod Store
 pub mod Targets
 pub mod Tree
 pub mod TreeLaws
+pub mod View

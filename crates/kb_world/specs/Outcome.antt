@@ -2,11 +2,14 @@
 -- of calls. This project's own.
 use Rattle.std.specs.Prelude.{ℕ, List, [], ◌∷◌, ◌++◌, Option, Some, None}
 use Rattle.kb_world.specs.Tree.{Tree}
+use Rattle.kb_world.specs.declared.child.Request.{Request}
 use Rattle.kb_world.specs.declared.refusal.Refusal.{Refusal}
 
 pub record Outcome : Type 0 where
   -- the store after each transaction, in order
   pub after : List Tree
+  -- the children that it runs, in order
+  pub requests : List Request
   pub out : List ℕ
   pub err : List ℕ
   -- none where all was done
@@ -23,22 +26,23 @@ abbrev pub Action : Type 0
 Action = Tree → Tree → Outcome
 
 abbrev pub refuse_if : Option Refusal → Action
-refuse_if refusal store foreign = record { after = []; out = []; err = []; end = refusal; foreign = foreign }
+refuse_if refusal store foreign = record { after = []; requests = []; out = []; err = []; end = refusal; foreign = foreign }
 
 -- a refusal, where what stands gives one
 abbrev pub unless : (Tree → Option Refusal) → Action
 unless refusal store foreign = refuse_if (refusal store) store foreign
 
 abbrev pub print : List ℕ → Action
-print text store foreign = record { after = []; out = text; err = []; end = None; foreign = foreign }
+print text store foreign = record { after = []; requests = []; out = text; err = []; end = None; foreign = foreign }
 
 -- one transaction, and its line
 abbrev pub transaction : (Tree → Tree) → List ℕ → Action
-transaction step line store foreign = record { after = step store ∷ []; out = line; err = []; end = None; foreign = foreign }
+transaction step line store foreign = record { after = step store ∷ []; requests = []; out = line; err = []; end = None; foreign = foreign }
 
 abbrev pub joined : Outcome → Outcome → Outcome
 joined first second = record {
   after = first.after ++ second.after;
+  requests = first.requests ++ second.requests;
   out = first.out ++ second.out;
   err = first.err ++ second.err;
   end = second.end;

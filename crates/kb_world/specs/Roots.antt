@@ -1,7 +1,7 @@
 -- The roots: where everything stands. This project's own, after the places that dkms(8), kernel-install(8) and the
 -- File Hierarchy Standard name.
 use Rattle.std.specs.Prelude.{Bool, true, ◌&&◌, not, List, [], ◌∷◌, codes, IsTrue}
-use Rattle.std.specs.List.{list_all}
+use Rattle.std.specs.List.{list_all, list_any}
 use Rattle.kb_world.specs.Path.{Path, child, is_under, are_apart}
 use Rattle.kb_world.specs.declared.roots.Roots.{Roots}
 
@@ -32,3 +32,7 @@ is_below path directory = is_under path directory && not (is_under directory pat
 -- no root is at or under another, and every root but boot is below the base
 abbrev pub AreApart : Roots → Type 0
 AreApart roots = IsTrue (each_apart (roots.boot ∷ based_roots roots) && list_all (λ root. is_below root roots.base) (based_roots roots))
+
+-- both lie below one of the roots
+abbrev pub share_root : Roots → Path → Path → Bool
+share_root roots a b = list_any (λ root. is_below a root && is_below b root) (roots.boot ∷ based_roots roots)

@@ -1,7 +1,14 @@
 -- What a world means, and what its calls do to it. This project's own.
-use Rattle.std.specs.Prelude.{◌≡◌, ◌⊎◌, ℕ, ◌+◌, ◌-◌, ◌^◌, ◌≤◌, min, Bool, Option, Result, option_map, OnOk, IsErrOf, IsTrue}
-use Rattle.kb_world.specs.Tree.{Tree}
+use Rattle.std.specs.Prelude.{◌≡◌, ◌⊎◌, ℕ, ◌+◌, ◌-◌, ◌^◌, ◌≤◌, min, Bool, List, [], ◌∷◌, ◌++◌, Option, Some, Result, Ok, Err, is_some, option_map, OnOk, IsErrOf, IsTrue}
+use Rattle.std.specs.Option.{ForSome}
+use Rattle.kb_world.specs.Path.{Path}
+use Rattle.kb_world.specs.Tree.{Tree, with_node}
+use Rattle.kb_world.specs.Area.{IsLeft}
+use Rattle.kb_world.specs.Script.{Script, answer_in, tree_after}
 use Rattle.kb_world.specs.declared.roots.Roots.{Roots}
+use Rattle.kb_world.specs.declared.tree.Node.TheVariants as node
+use Rattle.kb_world.specs.declared.child.Request.{Request}
+use Rattle.kb_world.specs.declared.child.Reply.{Reply}
 use Rattle.kb_world.specs.declared.world.WorldError.{WorldError}
 use Rattle.kb_world.specs.declared.world.WorldError.TheVariants.{Failed, NoMemory}
 
@@ -9,6 +16,10 @@ use Rattle.kb_world.specs.declared.world.WorldError.TheVariants.{Failed, NoMemor
 pub record State : Type 0 where
   pub tree : Option Tree
   pub roots : Roots
+  -- what its children answer and do
+  pub script : Script
+  -- the requests for children so far
+  pub ran : List Request
   -- how often the outside has failed
   pub faults : ℕ
   -- no fault of its own is due
@@ -25,10 +36,21 @@ pub record HasCause {E T : Type 0} (error : E) (old new : State) (result : Resul
   pub steady : IsTrue old.steady → IsTrue new.steady
   pub never : IsTrue old.steady → IsErrOf result error → ⊥
 
+-- what no call changes: the roots, the script, and whether the tree is told
+pub record Lasts (old new : State) : Type 0 where
+  pub roots : new.roots ≡ old.roots
+  pub script : new.script ≡ old.script
+  pub told : is_some new.tree ≡ is_some old.tree
+
+-- no child ran, and what no call changes
+pub record RanNone (old new : State) : Type 0 where
+  pub ran : new.ran ≡ old.ran
+  pub lasts : Lasts old new
+
 -- a call that only looks
 pub record Looks {T : Type 0} (old new : State) (result : Result T WorldError) : Type 0 where
   pub tree : new.tree ≡ old.tree
-  pub roots : new.roots ≡ old.roots
+  pub ran_none : RanNone old new
   pub cause : HasCause Failed old new result
 
 -- A call that changes the tree so: at Ok it is done, at a failure it is done or not, and where memory ran out it isn't.
@@ -36,5 +58,41 @@ pub record Changes (change : Tree → Tree) {T : Type 0} (old new : State) (resu
   pub done : OnOk result (new.tree ≡ option_map change old.tree)
   pub failed : IsErrOf result Failed → (new.tree ≡ old.tree) ⊎ (new.tree ≡ option_map change old.tree)
   pub no_memory : IsErrOf result NoMemory → new.tree ≡ old.tree
-  pub roots : new.roots ≡ old.roots
+  pub ran_none : RanNone old new
+  pub cause : HasCause Failed old new result
+
+-- the tree with a file of any bytes at the path
+pub record HasTornFile (path : Path) (old new : Option Tree) : Type 0 where
+  pub bytes : List ℕ
+  pub exec : Bool
+  pub torn : new ≡ option_map (with_node path (node.File bytes exec)) old
+
+-- A file is put at the path: at a failure it isn't there, or one of any bytes is.
+pub record Puts (path : Path) (bytes : List ℕ) (exec : Bool) {T : Type 0} (old new : State) (result : Result T WorldError) : Type 0 where
+  pub done : OnOk result (new.tree ≡ option_map (with_node path (node.File bytes exec)) old.tree)
+  pub failed : IsErrOf result Failed → (new.tree ≡ old.tree) ⊎ HasTornFile path old.tree new.tree
+  pub no_memory : IsErrOf result NoMemory → new.tree ≡ old.tree
+  pub ran_none : RanNone old new
+  pub cause : HasCause Failed old new result
+
+-- the child did what the script gives, and its reply is the script's
+pub record IsReplied (request : Request) (old new : State) (reply : Reply) (tree : Tree) : Type 0 where
+  pub said : reply ≡ (answer_in old.roots old.script request tree).reply
+  pub done : new.tree ≡ Some (tree_after old.roots old.script request tree)
+  pub ran : new.ran ≡ old.ran ++ request ∷ []
+
+-- the child was cut off, which leaves the tree outside of its area
+abbrev pub IsCutOff : Request → State → Tree → Type 0
+IsCutOff request new tree = (now : Tree) × (new.tree ≡ Some now) × IsLeft request.area tree now
+
+-- what the child did over a told tree
+abbrev pub EndsAs : Request → State → State → Result Reply WorldError → Tree → Type 0
+EndsAs request old new (Ok reply) tree = IsReplied request old new reply tree
+EndsAs request old new (Err Failed) tree = IsCutOff request new tree × (new.ran ≡ old.ran ++ request ∷ [])
+EndsAs request old new (Err NoMemory) tree = IsCutOff request new tree × ((new.ran ≡ old.ran) ⊎ (new.ran ≡ old.ran ++ request ∷ []))
+
+-- A child is run. Where memory runs out it may have been run in part, or not at all.
+pub record Runs (request : Request) (old new : State) (result : Result Reply WorldError) : Type 0 where
+  pub ends : ForSome old.tree (EndsAs request old new result)
+  pub lasts : Lasts old new
   pub cause : HasCause Failed old new result

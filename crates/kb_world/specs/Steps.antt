@@ -5,11 +5,11 @@ use Rattle.std.specs.Option.{option_or}
 use Rattle.std.specs.FinMap.{keys, remove, retain_keys}
 use Rattle.kb_world.specs.Names.{is_word}
 use Rattle.kb_world.specs.Path.{Path, child, is_under}
-use Rattle.kb_world.specs.Tree.{Tree, node_at, with_node, is_dir, is_file}
+use Rattle.kb_world.specs.Tree.{Tree, node_at, with_node, is_dir, is_file, file_bytes}
 use Rattle.kb_world.specs.TreeLaws.{same_path}
 use Rattle.kb_world.specs.Roots.{is_below}
 use Rattle.kb_world.specs.Store.{module_path, version_path, link_path, source_text, says}
-use Rattle.kb_world.specs.Targets.{file_bytes, last_name, targets_text}
+use Rattle.kb_world.specs.Targets.{last_name, targets_text}
 use Rattle.kb_world.specs.Boxes.{in_box, targets_path, module_file, places_at, boxed, kernel_link_name, spot_of_link, kernel_link_path, kernel_link_text, installed, key_of, chest_path}
 use Rattle.kb_world.specs.Damage.{least}
 use Rattle.kb_world.specs.declared.roots.Roots.{Roots}
@@ -49,8 +49,8 @@ all_placed base name [] tree = tree
 all_placed base name (item ∷ items) tree = all_placed base name items (placed base (name ∷ item.0) item.1 tree)
 
 -- without what passes the test
-abbrev pub without : (Path → Bool) → Tree → Tree
-without test tree = retain_keys tree (λ path. not (test path))
+abbrev pub cleared : (Path → Bool) → Tree → Tree
+cleared test tree = retain_keys tree (λ path. not (test path))
 
 -- a directory goes where nothing is left in it
 abbrev pub tidied : Path → Tree → Tree
@@ -65,7 +65,7 @@ tidied_above base (name ∷ next ∷ rest) tree = tidied (child base name) (tidi
 -- Takes away what is at or below a path, and the directories above it in which nothing is left.
 abbrev pub taken : Path → Path → Tree → Tree
 taken base names tree =
-    let left = without (λ path. is_under path (base ++ names)) tree in
+    let left = cleared (λ path. is_under path (base ++ names)) tree in
     cond (list_any (λ path. is_under path (base ++ names)) (keys tree)) (tidied_above base names left) left
 
 -- the paths at which a file or a link stands in the way of a directory
@@ -159,7 +159,7 @@ in_chest spot items = map (λ item. (spot.kernel ∷ spot.arch ∷ item.0, item.
 unfoldable pub install_step : Roots → Key → Spot → Tree → Tree
 install_step roots key spot store =
     let places = unwrap_or (places_at roots store key spot) [] in
-    let freed = without (λ path. list_any (same_path path) (installed_places roots store key.module spot) || is_displaced roots store spot.kernel places path) store in
+    let freed = cleared (λ path. list_any (same_path path) (installed_places roots store key.module spot) || is_displaced roots store spot.kernel places path) store in
     let kept = all_placed (roots.dkms ++ key.module ∷ []) (codes "original_module") (in_chest spot (displaced roots store spot.kernel places)) freed in
     with_node (kernel_link_path roots key.module spot) (node.Link (kernel_link_text key.version spot))
     (all_placed roots.modules spot.kernel (built_modules roots store key spot places) kept)
@@ -189,7 +189,7 @@ kept_files roots store word spot =
 abbrev pub restored : Roots → Key → Spot → Tree → Tree
 restored roots key spot store =
     cond (is_dir (node_at store (in_kernel roots spot.kernel [])))
-    (all_placed roots.modules spot.kernel (kept_files roots store key.module spot) (without (λ path. list_any (same_path path) (installed_places roots store key.module spot)) store))
+    (all_placed roots.modules spot.kernel (kept_files roots store key.module spot) (cleared (λ path. list_any (same_path path) (installed_places roots store key.module spot)) store))
     store
 
 -- Drop where the build stays: a version that is installed is so no longer, and its chest goes.

@@ -5,15 +5,6 @@ use Rattle.std.specs.Str.{byte}
 use Rattle.kb_world.specs.Names.{is_word}
 use Rattle.kb_world.specs.Path.{Path, are_apart}
 use Rattle.kb_world.specs.Refusal.{LINE_FEED}
-use Rattle.kb_world.specs.declared.tree.Node.{Node}
-use Rattle.kb_world.specs.declared.tree.Node.TheVariants as node
-
--- what a file holds
-abbrev pub file_bytes : Option Node → Option (List ℕ)
-file_bytes (Some (node.File bytes exec)) = Some bytes
-file_bytes (Some node.Dir) = None
-file_bytes (Some (node.Link text)) = None
-file_bytes None = None
 
 -- an `is_word` with `.ko` behind it
 abbrev pub is_module_file : List ℕ → Bool

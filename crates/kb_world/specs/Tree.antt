@@ -1,7 +1,7 @@
 -- The tree: a finite map from paths to directories, files and links. This project's own.
-use Rattle.std.specs.Prelude.{◌≡◌, ℕ, Bool, true, false, List, length, Option, Some, None, is_some, IsTrue}
-use Rattle.std.specs.FinMap.{FinMap, get, insert}
-use Rattle.kb_world.specs.Path.{Path, path_cmp, parent}
+use Rattle.std.specs.Prelude.{◌≡◌, ℕ, Bool, true, false, ◌&&◌, not, cond, List, [], ◌∷◌, length, drop, Option, Some, None, is_some, IsTrue, filter_map}
+use Rattle.std.specs.FinMap.{FinMap, get, insert, remove, keys}
+use Rattle.kb_world.specs.Path.{Path, path_cmp, parent, is_under}
 use Rattle.kb_world.specs.declared.tree.Node.{Node}
 use Rattle.kb_world.specs.declared.tree.Node.TheVariants as node
 use Rattle.kb_world.specs.declared.tree.Kind.{Kind}
@@ -17,6 +17,19 @@ node_at tree path = get tree path
 -- the tree with this node at the path, and nothing else changed
 abbrev pub with_node : Path → Node → Tree → Tree
 with_node path at tree = insert tree path at
+
+-- the tree with nothing at the path, and nothing else changed
+abbrev pub without : Path → Tree → Tree
+without path tree = remove tree path
+
+-- the tree with this node at the path, or with none there
+abbrev pub edited : Path → Option Node → Tree → Tree
+edited path None tree = without path tree
+edited path (Some at) tree = with_node path at tree
+
+-- the tree in which what stood at the first path stands at the second
+abbrev pub moved : Path → Path → Tree → Tree
+moved from to tree = edited to (node_at tree from) (without from tree)
 
 -- what a look tells of it
 abbrev pub kind_of : Option Node → Kind
@@ -44,6 +57,30 @@ link_text (Some node.Dir) = None
 link_text (Some (node.File bytes exec)) = None
 link_text None = None
 
+-- what a file holds
+abbrev pub file_bytes : Option Node → Option (List ℕ)
+file_bytes (Some (node.File bytes exec)) = Some bytes
+file_bytes (Some node.Dir) = None
+file_bytes (Some (node.Link text)) = None
+file_bytes None = None
+
+-- a file or a link
+abbrev pub is_leaf : Option Node → Bool
+is_leaf at = is_some at && not (is_dir at)
+
+-- the name of an entry of the directory, if the path is that of one
+abbrev pub name_in : Path → Path → Option (List ℕ)
+name_in directory path = cond (is_under path directory) (alone (drop (length directory) path)) None
+  where
+    alone : Path → Option (List ℕ)
+    alone (name ∷ []) = Some name
+    alone (name ∷ more ∷ rest) = None
+    alone [] = None
+
+-- the names of the directory's entries, each once, by bytes, since the paths of a tree are in order
+abbrev pub children : Tree → Path → List (List ℕ)
+children tree directory = filter_map (name_in directory) (keys tree)
+
 -- whatever stands in the tree stands in a directory; the root's is the root itself
 abbrev pub IsFormed : Tree → Type 0
 IsFormed tree = (path : Path) → IsTrue (is_some (node_at tree path)) → IsTrue (is_dir (node_at tree (parent path)))
@@ -52,3 +89,8 @@ IsFormed tree = (path : Path) → IsTrue (is_some (node_at tree path)) → IsTru
 pub record CanMake (tree : Tree) (path : Path) : Type 0 where
   pub free : node_at tree path ≡ None
   pub in_directory : IsTrue (is_dir (node_at tree (parent path)))
+
+-- a directory without entries
+pub record IsEmptyDir (tree : Tree) (path : Path) : Type 0 where
+  pub directory : IsTrue (is_dir (node_at tree path))
+  pub empty : children tree path ≡ []

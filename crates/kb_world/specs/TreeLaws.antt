@@ -5,8 +5,8 @@ use Rattle.std.specs.declared.cmp.Ordering.TheVariants.{Less, Equal, Greater}
 use Rattle.std.specs.Ordering.{eq_by_cmp, is_eq}
 use Rattle.std.specs.Cmp.{IsTotalOrder, eq_by_cmp_equiv}
 use Rattle.std.specs.Cmp.Lexicographic.{lists_total, nat_list_cmp_total}
-use Rattle.std.specs.FinMap.{remove, empty, get-empty, get-insert, get-remove, same_map, slice_cmp-IsAntisymmetric, nat_cmp-IsAntisymmetric}
-use Rattle.std.proofs.Common.{◌∙◌, ap}
+use Rattle.std.specs.FinMap.{remove, empty, get-empty, get-insert, get-remove, get-retain_keys, retain_keys, same_map, slice_cmp-IsAntisymmetric, nat_cmp-IsAntisymmetric}
+use Rattle.std.proofs.Common.{◌∙◌, ap, sym}
 use Rattle.kb_world.specs.Path.{Path, path_cmp}
 use Rattle.kb_world.specs.Tree.{Tree, node_at, with_node}
 use Rattle.kb_world.specs.declared.tree.Node.{Node}
@@ -59,6 +59,10 @@ remove-here tree path = node_at-remove tree path path ∙ ap (λ test. cond test
 
 pub remove-apart : (tree : Tree) (path : Path) (q : Path) → q ≢ path → node_at (remove tree path) q ≡ node_at tree q
 remove-apart tree path q apart = node_at-remove tree path q ∙ ap (λ test. cond test None (node_at tree q)) (same_path-false q path apart)
+
+-- ---- a part of a tree
+pub node_at-retain : (tree : Tree) (keeps : Path → Bool) (q : Path) → node_at (retain_keys tree keeps) q ≡ cond (keeps q) (node_at tree q) None
+node_at-retain tree keeps q = get-retain_keys tree keeps q (λ x tied. ap keeps (sym (paths_exact q x tied)))
 
 -- ---- whole trees
 pub node_at-empty : (q : Path) → node_at empty q ≡ None

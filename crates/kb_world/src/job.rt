@@ -1,12 +1,12 @@
 // What a command is about, and what it tells.
-ghost use Rattle.std.specs.Prelude.{◌≡◌, [], ◌∷◌, ◌++◌, List, OnOk, OnErr, Some};
+ghost use Rattle.std.specs.Prelude.{◌≡◌, Some};
 ghost use Rattle.kb_world.specs.Job.{key_text, spot_text};
 
 use crate::roots::Roots;
+use crate::sequence::Sequence;
 use crate::text::{Bytes, Text, Texts};
-use std::alloc::{AllocError, Global};
+use std::alloc::AllocError;
 use std::fmt;
-use std::marker::Model;
 
 /// A version of a module package, as `hello/1.0`: a module, which is an `is_word`, and a version, which is an
 /// `is_version`.
@@ -23,6 +23,17 @@ impl fmt::Display for Key {
         let module = &self.module;
         let version = &self.version;
         write!(f, "{module}/{version}")
+    }
+}
+
+impl Clone for Key {
+    ghost is_clone = { λ key made. made ≡ key };
+
+    fn clone(&self) -> Result<Self, AllocError> {
+        Ok(Key {
+            module: self.module.clone()?,
+            version: self.version.clone()?,
+        })
     }
 }
 
@@ -43,52 +54,10 @@ impl fmt::Display for Spot {
     }
 }
 
-/// A list of spots.
-#[derive(Debug, Drop)]
-pub struct SpotList {
-    items: Vec<Spot>,
-}
-
-impl Model for SpotList {
-    ghost use Rattle.std.specs.Prelude.{List};
-    ghost use Rattle.kb_world.specs.declared.job.Spot.{Spot};
-
-    ghost Value = { List Spot };
-
-    ghost view = { λ s. s.items.items };
-}
-
-impl SpotList {
-    /// No spots.
-    pub fn new(alloc: Global) -> SpotList
-        ensures { result ≡ [] }
-    {
-        SpotList {
-            items: Vec::new(alloc),
-        }
-    }
-
-    /// The spots, to be read.
-    pub fn as_slice(&self) -> &[Spot]
-        ensures { result.now ≡ self.now }
-    {
-        &self.items
-    }
-
-    /// Adds a spot at the end. An error changes nothing.
-    pub fn push(&mut self, spot: Spot) -> Result<(), AllocError>
-        ensures ok { OnOk result (self.new ≡ self.old ++ spot ∷ []) }
-        ensures err { OnErr result (self.new ≡ self.old) }
-    {
-        self.items.push(spot)?;
-        Ok(())
-    }
-}
-
 /// The spots that an action is for: those that the words list, or all where there is something to do.
 #[derive(Debug, Drop)]
 pub enum Spots {
-    Listed(SpotList),
+    Listed(Sequence<Spot>),
     All,
 }
 

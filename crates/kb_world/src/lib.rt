@@ -1,14 +1,16 @@
-//! The outside of kmodboot, as the layers above see it: a tree of files, a place to write text, and the names,
-//! paths and refusals that all layers share. A world and a sink are traits, so that the same program runs over a
+//! The outside of kmodboot, as the layers above see it: a tree of files and child programs, a place to write text,
+//! and the names, paths and refusals that all layers share. A world and a sink are traits, so that the same program runs over a
 //! world in memory, which tells its tree, and over the real one, which doesn't.
 #![tactic(auto)]
 
+mod child;
 mod job;
 mod laws;
 mod names;
 mod path;
 mod refusal;
 mod roots;
+mod sequence;
 mod sink;
 mod stop;
 mod store_laws;
@@ -16,17 +18,21 @@ mod store_laws;
 mod tests;
 mod text;
 mod tree;
+mod whose;
 mod world;
 
-pub use job::{Filter, HookKind, Host, Job, Key, Report, Spot, SpotList, Spots, TokenChoice};
+pub use child::{Area, Effect, EffectRow, Reply, Request};
+pub use job::{Filter, HookKind, Host, Job, Key, Report, Spot, Spots, TokenChoice};
 pub use laws::add_adds_one_package;
 pub use names::{is_arch, is_boot_word, is_kernel, is_name, is_version, is_word};
 pub use path::{Path, PathError, text_tells_path};
 pub use refusal::{Refusal, bad_boot_line, bad_root_line, fault_line, message, no_memory_line};
 pub use roots::Roots;
+pub use sequence::Sequence;
 pub use sink::{Sink, SinkError};
 pub use stop::Stop;
 pub use store_laws::{no_step_damages, targets_are_read_back};
 pub use text::{Bytes, Text, Texts};
-pub use tree::{Kind, Node};
+pub use tree::{Edit, Kind, Node};
+pub use whose::{is_index, is_private};
 pub use world::{World, WorldError};

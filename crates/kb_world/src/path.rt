@@ -1,5 +1,5 @@
 // Paths of the tree, as lists of names from the root.
-ghost use Rattle.std.specs.Prelude.{◌≡◌, ◌≢◌, ◌==◌, List, ℕ, [], ◌∷◌, IfOk, IsErrOf, IsTrue, MatchOption, Some, map, refl, nat_eq};
+ghost use Rattle.std.specs.Prelude.{◌≡◌, ◌≢◌, ◌==◌, List, ℕ, [], ◌∷◌, IfOk, IsErrOf, IsTrue, MatchOption, Some, true, false, drop, length, map, refl, nat_eq};
 ghost use Rattle.std.specs.List.{slice_split};
 ghost use Rattle.std.specs.Str.{byte};
 ghost use Rattle.std.specs.Ordering.{nat_cmp};
@@ -148,6 +148,18 @@ impl Path {
         ensures { result ≡ is_under self.now other.now }
     {
         self.names.starts_with(&other.names)
+    }
+
+    /// The names behind the directory's, where the path is the directory or lies below it.
+    pub fn below(&self, directory: &Path) -> Option<&[Text]>
+        ensures { MatchOption result (is_under self.now directory.now ≡ false)
+            (λ names. (is_under self.now directory.now ≡ true) × (names.now ≡ drop (length directory.now) self.now)) }
+    {
+        if self.is_under(directory) {
+            Some(&self.names[directory.names.len()..])
+        } else {
+            None
+        }
     }
 }
 

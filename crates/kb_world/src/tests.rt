@@ -144,16 +144,51 @@ fn bytes_and_lists_grow(rt: HostRuntime) -> Result<(), Fail> {
     let mut texts = Texts::new(rt.alloc());
     texts.push(Text::of(rt.alloc(), "a")?)?;
     assert_eq!(rt; texts.as_slice().len(), 1);
+    assert_eq!(rt;
+        Sequence::from_items(vec![in rt.alloc(); 7u8]?)
+            .clone()?
+            .as_slice(),
+        [7u8].as_slice()
+    );
     Ok(())
 }
 
 #[test]
-fn spots_are_listed(rt: HostRuntime) -> Result<(), Fail> {
-    let mut spots = SpotList::new(rt.alloc());
-    spots.push(Spot {
-        kernel: Text::of(rt.alloc(), "6.1.0")?,
-        arch: Text::of(rt.alloc(), "x86_64")?,
-    })?;
-    assert_eq!(rt; spots.as_slice().len(), 1);
+fn a_request_is_cloned(rt: HostRuntime) -> Result<(), Fail> {
+    let alloc = rt.alloc();
+    let request = Request {
+        program: Text::of(alloc, "depmod")?,
+        args: Texts::new(alloc),
+        env: Sequence::new(alloc),
+        dir: Path::root(alloc),
+        area: Area::Names(Path::root(alloc), Texts::new(alloc)),
+        seen: Sequence::new(alloc),
+    };
+    assert_eq!(rt; request.clone()?.program.as_str(), "depmod");
+    Ok(())
+}
+
+// A path below the usual roots, and whether it is the tool's own and whether it is an index file.
+const WHOSE: [(&str, bool, bool); 9] = [
+    ("/var/lib/dkms/.intent", true, false),
+    ("/var/lib/dkms/.intent.new/x", true, false),
+    ("/var/lib/dkms/hello/1.0/build/hello.c", true, false),
+    ("/var/lib/dkms/hello/1.0/source", false, false),
+    ("/boot/.kb-plugins", true, false),
+    ("/usr/src/.kb-staged", true, false),
+    ("/lib/modules/6.1.0/modules.dep", false, true),
+    ("/lib/modules/build/modules.dep", false, false),
+    ("/lib/modules/6.1.0/kernel/modules.dep", false, false),
+];
+
+#[test]
+fn paths_are_whose_they_are(rt: HostRuntime) -> Result<(), Fail> {
+    let alloc = rt.alloc();
+    let roots = Roots::under(alloc, &Path::root(alloc))?;
+    for (text, private, index) in &WHOSE {
+        let path = Path::parse(alloc, text)?;
+        assert!(rt; is_private(&roots, &path) == *private, "{text}");
+        assert!(rt; is_index(&roots, &path) == *index, "{text}");
+    }
     Ok(())
 }

@@ -1,9 +1,10 @@
 // Small types over std's text and bytes, which contracts see as lists of bytes.
-ghost use Rattle.std.specs.Prelude.{◌≡◌, [], ◌∷◌, ◌++◌, List, ℕ, IfOk, OnOk, OnErr, Some, string_bytes, nat_eq, refl};
+ghost use Rattle.std.specs.Prelude.{◌≡◌, [], ◌++◌, List, ℕ, IfOk, OnOk, OnErr, Some, string_bytes, nat_eq, refl};
 ghost use Rattle.std.specs.Ordering.{nat_cmp};
 ghost use Rattle.std.specs.Cmp.Lexicographic.{slice_cmp, pointwise, nat_list_cmp_total, nat_list_eq_equiv, texts_ties, texts_po};
 ghost use Rattle.std.specs.Cmp as laws_of;
 
+use crate::sequence::Sequence;
 use std::alloc::{AllocError, Global};
 use std::cmp::Ordering;
 use std::fmt;
@@ -168,40 +169,4 @@ impl Clone for Bytes {
 }
 
 /// A list of texts.
-#[derive(Debug, Drop)]
-pub struct Texts {
-    items: Vec<Text>,
-}
-
-impl Model for Texts {
-    ghost Value = { List (List ℕ) };
-
-    ghost view = { λ t. t.items.items };
-}
-
-impl Texts {
-    /// No texts.
-    pub fn new(alloc: Global) -> Texts
-        ensures { result ≡ [] }
-    {
-        Texts {
-            items: Vec::new(alloc),
-        }
-    }
-
-    /// The texts, to be read.
-    pub fn as_slice(&self) -> &[Text]
-        ensures { result.now ≡ self.now }
-    {
-        &self.items
-    }
-
-    /// Adds a text at the end. An error changes nothing.
-    pub fn push(&mut self, text: Text) -> Result<(), AllocError>
-        ensures ok { OnOk result (self.new ≡ self.old ++ text ∷ []) }
-        ensures err { OnErr result (self.new ≡ self.old) }
-    {
-        self.items.push(text)?;
-        Ok(())
-    }
-}
+pub type Texts = Sequence<Text>;
