@@ -1,0 +1,10 @@
+//! What stands below the dkms root: the file `targets` of a build.
+#![tactic(auto)]
+
+mod place;
+mod targets;
+#[cfg(test)]
+mod tests;
+
+pub use place::{Places, RelPath};
+pub use targets::{read_targets, write_targets};
