@@ -1,15 +1,18 @@
 -- What a child program may change, and what one that is cut off leaves. This project's own disk rules.
-use Rattle.std.specs.Prelude.{◌≡◌, ℕ, Bool, true, false, ◌&&◌, not, List}
+use Rattle.std.specs.Prelude.{◌≡◌, ℕ, Bool, true, false, ◌&&◌, not, List, Option, Some, None, bytes_eq}
 use Rattle.std.specs.List.{list_any}
-use Rattle.kb_world.specs.Path.{Path, child, is_under}
-use Rattle.kb_world.specs.Tree.{Tree, node_at, is_dir}
-use Rattle.kb_world.specs.TreeLaws.{same_path}
+use Rattle.kb_world.specs.Path.{Path, is_under}
+use Rattle.kb_world.specs.Tree.{Tree, node_at, is_dir, name_in}
 use Rattle.kb_world.specs.declared.child.Area.{Area}
 use Rattle.kb_world.specs.declared.child.Area.TheVariants as areas
 
 -- the path is that of one of these names in the directory
 abbrev pub is_named : Path → List (List ℕ) → Path → Bool
-is_named directory names path = list_any (λ name. same_path path (child directory name)) names
+is_named directory names path = is_among (name_in directory path)
+  where
+    is_among : Option (List ℕ) → Bool
+    is_among (Some name) = list_any (bytes_eq name) names
+    is_among None = false
 
 -- The path is in the area: a directory with all below it, or a path of one of the names where no directory stands.
 abbrev pub holds : Area → Tree → Path → Bool

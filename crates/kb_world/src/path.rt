@@ -6,7 +6,9 @@ ghost use Rattle.std.specs.Ordering.{nat_cmp};
 ghost use Rattle.std.specs.Cmp as laws_of;
 ghost use Rattle.std.specs.Cmp.Lexicographic.{pointwise, lists_total, lists_equiv, lists_ties, lists_po, nat_list_cmp_total, nat_list_eq_equiv, texts_ties};
 ghost use Rattle.kb_world.specs.Names.{is_name};
-ghost use Rattle.kb_world.specs.Path.{IsPath, path_text, child, is_under, path_cmp};
+ghost use Rattle.std.specs.Option.{option_copied};
+ghost use Rattle.kb_world.specs.Path.{IsPath, path_text, child, parent, is_under, path_cmp};
+ghost use Rattle.kb_world.specs.Tree.{name_in};
 ghost use Rattle.kb_world.specs.declared.path.PathError.TheVariants.{NotAPath, NoMemory};
 
 use crate::names::is_name;
@@ -133,6 +135,25 @@ impl Path {
         let mut made = self.clone()?;
         made.names.push(Text::of(alloc, name)?)?;
         Ok(made)
+    }
+
+    /// The path of the directory that the path stands in; the root's is the root.
+    pub fn parent(&self) -> Result<Path, AllocError>
+        ensures { IfOk result (λ made. made ≡ parent self.now) }
+    {
+        let mut made = self.clone()?;
+        made.names.pop();
+        Ok(made)
+    }
+
+    /// The name of the directory's entry that the path is the path of, if it is one's.
+    pub fn name_in(&self, directory: &Path) -> Option<&Text>
+        ensures { option_copied result ≡ name_in directory.now self.now }
+    {
+        match self.below(directory) {
+            Some([name]) => Some(name),
+            _ => None,
+        }
     }
 
     /// The names from the root.
