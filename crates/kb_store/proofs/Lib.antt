@@ -1,3 +1,4 @@
 pub mod OrderLaws
 pub mod PlaceLaws
 pub mod TargetsLaws
+pub mod WalkLaws

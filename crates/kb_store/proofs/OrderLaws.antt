@@ -10,10 +10,10 @@ use Rattle.std.specs.Cmp.Lexicographic.{slice_cmp, bytes_decides, nat_list_cmp_t
 use Rattle.kb_world.specs.Path.{Path, path_cmp, is_under}
 use Rattle.kb_world.specs.TreeLaws.{same_path, same_path-true, same_path-refl}
 
-untrue : false ≡ true → ⊥
+pub untrue : false ≡ true → ⊥
 untrue e = cc
 
-by_test : (b : Bool) → (b ≡ true → ⊥) → b ≡ false
+pub by_test : (b : Bool) → (b ≡ true → ⊥) → b ≡ false
 by_test true never = absurd (never refl)
 by_test false never = refl
 
