@@ -1,4 +1,5 @@
 pub mod OrderLaws
 pub mod PlaceLaws
 pub mod TargetsLaws
+pub mod VisitLaws
 pub mod WalkLaws

@@ -145,8 +145,8 @@ nothing_beyond name entry ([] ∷ paths) h all = nothing_beyond name entry paths
 nothing_beyond name entry ((first ∷ []) ∷ paths) h all = nothing_beyond name entry paths h (second_so (is_lt (path_cmp (entry ∷ []) (first ∷ []))) (list_all (λ other. is_lt (path_cmp (entry ∷ []) other)) paths) all)
 nothing_beyond name entry ((first ∷ next ∷ rest) ∷ paths) h all =
     let other : bytes_eq name first ≡ false = by_test (bytes_eq name first) (λ same.
-        let is = (bytes_decides name first).0 same in
-        lower name entry next rest h (subst (λ n. is_lt (path_cmp (entry ∷ []) (n ∷ next ∷ rest)) ≡ true) (sym is) (first_so (is_lt (path_cmp (entry ∷ []) (first ∷ next ∷ rest))) (list_all (λ other. is_lt (path_cmp (entry ∷ []) other)) paths) all))) in
+    let is = (bytes_decides name first).0 same in
+    lower name entry next rest h (subst (λ n. is_lt (path_cmp (entry ∷ []) (n ∷ next ∷ rest)) ≡ true) (sym is) (first_so (is_lt (path_cmp (entry ∷ []) (first ∷ next ∷ rest))) (list_all (λ other. is_lt (path_cmp (entry ∷ []) other)) paths) all))) in
     ap (λ b. cond b ((first ∷ next ∷ rest) ∷ beyond name paths) (beyond name paths)) other
     ∙ nothing_beyond name entry paths h (second_so (is_lt (path_cmp (entry ∷ []) (first ∷ next ∷ rest))) (list_all (λ other. is_lt (path_cmp (entry ∷ []) other)) paths) all)
 
@@ -180,8 +180,8 @@ in_groups (Some name) ((entry ∷ []) ∷ paths) up closed behind =
     let all = first_so (list_all (λ other. is_lt (path_cmp (entry ∷ []) other)) paths) (rises paths) up in
     let before = first_so (is_lt (path_cmp (name ∷ []) (entry ∷ []))) (list_all (λ other. is_lt (path_cmp (name ∷ []) other)) paths) behind in
     let over : (a next : List ℕ) (rest : Path) → is_in (a ∷ next ∷ rest) paths → Some name ≡ Some a → ⊥ = λ a next rest h e.
-        let is : name ≡ a = cc in
-        lower name entry next rest before (subst (λ n. is_lt (path_cmp (entry ∷ []) (n ∷ next ∷ rest)) ≡ true) (sym is) (holds_of (λ other. is_lt (path_cmp (entry ∷ []) other)) paths (a ∷ next ∷ rest) all h)) in
+    let is : name ≡ a = cc in
+    lower name entry next rest before (subst (λ n. is_lt (path_cmp (entry ∷ []) (n ∷ next ∷ rest)) ≡ true) (sym is) (holds_of (λ other. is_lt (path_cmp (entry ∷ []) other)) paths (a ∷ next ∷ rest) all h)) in
     ap (λ p. (entry ∷ []) ∷ p) (in_groups (Some entry) paths (second_so (list_all (λ other. is_lt (path_cmp (entry ∷ []) other)) paths) (rises paths) up) (closed_behind (Some name) entry paths over closed) all)
     ∙ sym (ap (λ p. p ++ grouped ((entry ∷ []) ∷ paths) (heads ((entry ∷ []) ∷ paths))) (nothing_beyond name entry paths before all))
 in_groups None ((first ∷ next ∷ rest) ∷ paths) up closed behind = absurd (elim (closed.heads_in first next rest (in_front (first ∷ next ∷ rest) paths)) as (λ _. ⊥) [
@@ -194,17 +194,17 @@ in_groups None ((first ∷ next ∷ rest) ∷ paths) up closed behind = absurd (
 in_groups (Some name) ((first ∷ next ∷ rest) ∷ paths) up closed behind =
     let all = first_so (list_all (λ other. is_lt (path_cmp (first ∷ next ∷ rest) other)) paths) (rises paths) up in
     let is : name ≡ first = elim (closed.heads_in first next rest (in_front (first ∷ next ∷ rest) paths)) as (λ _. name ≡ first) [
-          | inl is ↦ cc
-          | inr there ↦ absurd (deeper first next rest (holds_of (λ other. is_lt (path_cmp (first ∷ next ∷ rest) other)) paths (first ∷ []) all (in_rest (first ∷ []) (first ∷ next ∷ rest) paths (λ e. cc) there)))
-        ] in
+      | inl is ↦ cc
+      | inr there ↦ absurd (deeper first next rest (holds_of (λ other. is_lt (path_cmp (first ∷ next ∷ rest) other)) paths (first ∷ []) all (in_rest (first ∷ []) (first ∷ next ∷ rest) paths (λ e. cc) there)))
+    ] in
     let later = in_groups (Some name) paths (second_so (list_all (λ other. is_lt (path_cmp (first ∷ next ∷ rest) other)) paths) (rises paths) up)
-        (record {
-          some = λ h. closed.some (in_more [] (first ∷ next ∷ rest) paths h);
-          heads_in = λ a k more h. elim (closed.heads_in a k more (in_more (a ∷ k ∷ more) (first ∷ next ∷ rest) paths h)) as (λ _. (Some name ≡ Some a) ⊎ is_in (a ∷ []) paths) [
-            | inl e ↦ inl e
-            | inr there ↦ inr (in_rest (a ∷ []) (first ∷ next ∷ rest) paths (λ e. cc) there)
-          ];
-        })
-        (second_so (is_lt (path_cmp (name ∷ []) (first ∷ next ∷ rest))) (list_all (λ other. is_lt (path_cmp (name ∷ []) other)) paths) behind) in
+    (record {
+      some = λ h. closed.some (in_more [] (first ∷ next ∷ rest) paths h);
+      heads_in = λ a k more h. elim (closed.heads_in a k more (in_more (a ∷ k ∷ more) (first ∷ next ∷ rest) paths h)) as (λ _. (Some name ≡ Some a) ⊎ is_in (a ∷ []) paths) [
+        | inl e ↦ inl e
+        | inr there ↦ inr (in_rest (a ∷ []) (first ∷ next ∷ rest) paths (λ e. cc) there)
+      ];
+    })
+    (second_so (is_lt (path_cmp (name ∷ []) (first ∷ next ∷ rest))) (list_all (λ other. is_lt (path_cmp (name ∷ []) other)) paths) behind) in
     ap (λ p. (first ∷ next ∷ rest) ∷ p) (later ∙ ap (λ g. beyond name paths ++ g) (sym (same_groups first next rest paths (heads paths) (other_names first next rest paths all))))
     ∙ sym (ap (λ b. cond b ((first ∷ next ∷ rest) ∷ beyond name paths) (beyond name paths) ++ grouped ((first ∷ next ∷ rest) ∷ paths) (heads paths)) ((bytes_decides name first).1 is))

@@ -18,7 +18,7 @@ use Rattle.kb_world.specs.declared.tree.Node.TheVariants as node
 use Rattle.kb_world.proofs.PathLaws.{under-append, under-beside, under-above, drop-front}
 use Rattle.kb_world.proofs.StepLaws.{parent-child}
 use Rattle.kb_world.proofs.DamageLaws.{under-split}
-use Rattle.kb_store.specs.Walk.{below}
+use Rattle.kb_store.specs.Walking.{below}
 use Rattle.kb_store.proofs.OrderLaws.{untrue, by_test, rises, is_in, holds_of, in_more, in_rest, sole, is_beyond, beyond, heads, grouped, IsClosed, in_groups}
 
 -- ---- the paths of a tree rise

@@ -5,6 +5,8 @@ mod place;
 mod targets;
 #[cfg(test)]
 mod tests;
+mod walking;
 
 pub use place::{Places, RelPath};
 pub use targets::{read_targets, write_targets};
+pub use walking::{Met, Skips, Walk, walk_below};

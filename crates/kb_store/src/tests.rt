@@ -7,9 +7,7 @@ use std::test::Fail;
 // Reads the text, and writes again what it gives.
 fn written_again(alloc: Global, text: &str) -> Result<Option<String>, AllocError> {
     match read_targets(alloc, text.as_bytes())? {
-        Some(places) => Ok(Some(
-            write_targets(alloc, places.as_slice())?.to_string(alloc)?,
-        )),
+        Some(places) => Ok(Some(write_targets(alloc, places.as_slice())?.to_string(alloc)?)),
         None => Ok(None),
     }
 }
