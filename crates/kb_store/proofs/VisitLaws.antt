@@ -1,11 +1,8 @@
 -- How a walk goes on over the entries of a directory.
-use Rattle.std.proofs.Common.{◌≡◌, ◌≤◌, ◌<◌, ℕ, suc, zero, ◌+◌, ◌-◌, Bool, true, false, cond, ◌&&◌, ◌||◌, not, List, [], ◌∷◌, ◌++◌, length, take, drop, get_or, Option, Some, None, is_some, refl, sym, ap, ◌∙◌, subst, arith, length-append, nat_eq}
-use Rattle.std.specs.Prelude.{IsTrue, IsErrOf, Result, Ok, Err, filter, flat_map, nat_le, nat_lt}
+use Rattle.std.proofs.Common.{◌≡◌, ◌≤◌, ℕ, suc, zero, ◌+◌, ◌-◌, Bool, true, false, cond, ◌&&◌, ◌||◌, not, List, [], ◌∷◌, ◌++◌, length, take, drop, Option, Some, None, is_some, refl, sym, ap, ◌∙◌, arith, length-append, nat_eq}
+use Rattle.std.specs.Prelude.{IsTrue, Result, filter, flat_map, nat_le, nat_lt}
 use Rattle.std.specs.Option.{ForSome}
-use Rattle.std.specs.List.{fold, list_all}
-use Rattle.std.specs.Cmp.{first_so, second_so}
-use Rattle.std.proofs.lemmas.List.{take_more}
-use Rattle.std.proofs.lemmas.List.Sums.{fold-append}
+use Rattle.std.specs.Cmp.{first_so}
 use Rattle.std.proofs.lemmas.List.{take_all}
 use Rattle.std.proofs.lemmas.Bool.{lt-ltb, le-ltb}
 use Rattle.std.proofs.Math.Dec.{eqb-suc-zero}
@@ -14,15 +11,14 @@ use Rattle.kb_world.specs.Roots.{is_below}
 use Rattle.kb_world.proofs.DamageLaws.{under-split}
 use Rattle.kb_world.specs.Path.{Path, child, is_under}
 use Rattle.kb_world.specs.Tree.{Tree, node_at, is_dir, kind_of, children, IsFormed}
-use Rattle.kb_world.specs.State.{State, Looks, HasCause, RanNone, Lasts}
+use Rattle.kb_world.specs.State.{State, Looks, RanNone}
 use Rattle.kb_world.specs.declared.tree.Kind.{Kind}
 use Rattle.kb_world.specs.declared.tree.Kind.TheVariants as kind
 use Rattle.kb_world.specs.declared.tree.Node.{Node}
 use Rattle.kb_world.specs.declared.tree.Node.TheVariants as node
 use Rattle.kb_world.specs.declared.world.WorldError.{WorldError}
-use Rattle.kb_world.specs.declared.world.WorldError.TheVariants.{Failed, NoMemory}
-use Rattle.kb_world.proofs.DoesLaws.{ran_none_then, rose_since}
-use Rattle.kb_store.specs.Walking.{below, entries, entry_block, passes_limit, meets, walk_on, walked, is_dir_kind, MOST_ENTRIES, DEEPEST}
+use Rattle.kb_world.proofs.DoesLaws.{ran_none_then}
+use Rattle.kb_store.specs.Walking.{below, entries, entry_block, passes_limit, meets, walk_on, is_dir_kind, MOST_ENTRIES}
 use Rattle.kb_store.specs.declared.walking.Met.{Met}
 use Rattle.kb_store.specs.declared.walking.Walk.{Walk}
 use Rattle.kb_store.proofs.WalkLaws.{below_entries, below_leaf}

@@ -1,25 +1,24 @@
 -- What stands below a directory, entry by entry.
-use Rattle.std.proofs.Common.{◌≡◌, ◌≢◌, ◌⊎◌, inl, inr, ℕ, suc, zero, ◌+◌, ◌-◌, Bool, true, false, cond, ◌&&◌, ◌||◌, not, List, [], ◌∷◌, ◌++◌, length, take, drop, map, Option, Some, None, is_some, refl, sym, ap, ◌∙◌, subst, append_assoc, append-nil, arith, T, Ordering, length-append}
-use Rattle.std.specs.Prelude.{bytes_eq, filter, flat_map, filter_map, IsTrue}
+use Rattle.std.proofs.Common.{◌≡◌, inr, ℕ, Bool, true, false, cond, ◌&&◌, ◌||◌, not, List, [], ◌∷◌, ◌++◌, length, drop, map, Option, Some, None, is_some, refl, sym, ap, ◌∙◌, subst, append_assoc, append-nil, T}
+use Rattle.std.specs.Prelude.{bytes_eq, filter, flat_map, filter_map}
 use Rattle.std.specs.List.{list_all, list_any, cons_option}
 use Rattle.std.specs.FinMap.{keys, entries, entries_sorted, contains_key-keys}
 use Rattle.std.specs.FinMap.Entries.{is_sorted, below_all}
-use Rattle.std.specs.Ordering.{is_lt, ordering_then, nat_cmp}
+use Rattle.std.specs.Ordering.{is_lt, ordering_then}
 use Rattle.std.specs.Cmp.{first_so, second_so, tied_itself}
 use Rattle.std.specs.Cmp.Derive.{both_true}
-use Rattle.std.specs.Cmp.Lexicographic.{slice_cmp, bytes_decides, nat_list_cmp_total}
+use Rattle.std.specs.Cmp.Lexicographic.{bytes_decides, nat_list_cmp_total}
 use Rattle.std.proofs.lemmas.List.{map-append}
-use Rattle.kb_world.specs.Path.{Path, path_cmp, child, parent, is_under}
+use Rattle.kb_world.specs.Path.{Path, path_cmp, child, is_under}
 use Rattle.kb_world.specs.Roots.{is_below}
 use Rattle.kb_world.specs.Tree.{Tree, node_at, is_dir, name_in, children, IsFormed}
 use Rattle.kb_world.specs.TreeLaws.{same_path, same_path-true, same_path-refl}
 use Rattle.kb_world.specs.declared.tree.Node.{Node}
-use Rattle.kb_world.specs.declared.tree.Node.TheVariants as node
-use Rattle.kb_world.proofs.PathLaws.{under-append, under-beside, under-above, drop-front}
+use Rattle.kb_world.proofs.PathLaws.{under-append, under-beside, drop-front}
 use Rattle.kb_world.proofs.StepLaws.{parent-child}
 use Rattle.kb_world.proofs.DamageLaws.{under-split}
 use Rattle.kb_store.specs.Walking.{below}
-use Rattle.kb_store.proofs.OrderLaws.{untrue, by_test, rises, is_in, holds_of, in_more, in_rest, sole, is_beyond, beyond, heads, grouped, IsClosed, in_groups}
+use Rattle.kb_store.proofs.OrderLaws.{untrue, by_test, rises, is_in, in_more, sole, is_beyond, beyond, heads, grouped, IsClosed, in_groups}
 
 -- ---- the paths of a tree rise
 

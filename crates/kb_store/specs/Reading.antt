@@ -1,5 +1,5 @@
 -- What the reader of `targets` makes of one line. This project's own.
-use Rattle.std.specs.Prelude.{List, Option, Some, None, cond}
+use Rattle.std.specs.Prelude.{Option, Some, None, cond}
 use Rattle.kb_world.specs.Path.{Path}
 use Rattle.kb_world.specs.Targets.{is_place}
 

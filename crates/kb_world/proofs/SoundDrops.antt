@@ -1,31 +1,31 @@
 -- Install, Drop and Unadd keep a store sound.
-use Rattle.std.proofs.Common.{◌≡◌, ◌≢◌, ℕ, Bool, true, false, cond, ◌&&◌, ◌||◌, not, List, [], ◌∷◌, ◌++◌, length, drop, map, Option, Some, None, is_some, codes, refl, sym, ap, ◌∙◌, subst, append_assoc}
+use Rattle.std.proofs.Common.{◌≡◌, ℕ, Bool, true, false, cond, ◌&&◌, ◌||◌, not, List, [], ◌∷◌, ◌++◌, length, drop, map, Option, Some, None, is_some, codes, refl, sym, ap, ◌∙◌, subst}
 use Rattle.std.specs.Prelude.{bytes_eq, option_and_then, unwrap_or}
-use Rattle.std.specs.List.{list_all, list_any, starts_with}
-use Rattle.std.specs.Cmp.{first_so, second_so}
+use Rattle.std.specs.List.{list_any}
+use Rattle.std.specs.Cmp.{first_so}
 use Rattle.std.specs.Cmp.Derive.{both_true}
 use Rattle.std.specs.Cmp.Lexicographic.{bytes_decides}
-use Rattle.kb_world.specs.Names.{is_word, is_version, is_kernel, is_arch}
-use Rattle.kb_world.specs.Path.{Path, child, is_under, are_apart}
-use Rattle.kb_world.specs.Tree.{Tree, node_at, with_node, is_dir, is_file, link_text, file_bytes}
+use Rattle.kb_world.specs.Names.{is_word, is_version}
+use Rattle.kb_world.specs.Path.{Path, child, is_under}
+use Rattle.kb_world.specs.Tree.{Tree, node_at, is_dir, link_text, file_bytes}
 use Rattle.kb_world.specs.TreeLaws.{same_path, same_path-true}
 use Rattle.kb_world.specs.Roots.{AreApart}
-use Rattle.kb_world.specs.Store.{is_key, is_added, link_path, says}
-use Rattle.kb_world.specs.Targets.{last_name, targets_of}
-use Rattle.kb_world.specs.Boxes.{is_spot, targets_path, module_file, places_at, is_built, has_files, boxed, kernel_link_name, kernel_link_path, kernel_link_text, linked_at, installed, key_of, version_of, spot_of_link}
-use Rattle.kb_world.specs.Steps.{all_placed, cleared, tidied_above, taken, in_kernel, installed_places, is_displaced, install_step, restored, kept_files, displaced, in_chest, built_modules, uninstall_step, unbuild_step, unadd_step}
+use Rattle.kb_world.specs.Store.{says}
+use Rattle.kb_world.specs.Targets.{targets_of}
+use Rattle.kb_world.specs.Boxes.{is_spot, targets_path, places_at, is_built, has_files, boxed, kernel_link_name, kernel_link_path, linked_at, installed, key_of, version_of, spot_of_link}
+use Rattle.kb_world.specs.Steps.{all_placed, cleared, taken, in_kernel, installed_places, is_displaced, install_step, restored, kept_files, displaced, in_chest, built_modules, uninstall_step, unbuild_step, unadd_step}
 use Rattle.kb_world.specs.declared.roots.Roots.{Roots}
 use Rattle.kb_world.specs.declared.job.Key.{Key}
 use Rattle.kb_world.specs.declared.job.Spot.{Spot}
 use Rattle.kb_world.specs.declared.tree.Node.{Node}
-use Rattle.kb_world.proofs.PathLaws.{under-append, under-self, under-beside, elsewhere, elsewhere-below, by_test}
+use Rattle.kb_world.proofs.PathLaws.{under-append, under-self, under-beside, elsewhere-below, by_test}
 use Rattle.kb_world.proofs.PublicLaws.{written_apart}
 use Rattle.kb_world.proofs.DamageLaws.{spot_of, IsSound, IsSoundBox, under-split}
-use Rattle.kb_world.proofs.SoundLaws.{tells, may_go, is_module_entry, Kept, same, gone, filed, Keeps, sound_kept, built-kept, told-version}
+use Rattle.kb_world.proofs.SoundLaws.{tells, Kept, same, gone, filed, Keeps, sound_kept, built-kept}
 use Rattle.kb_world.proofs.SoundEdits.{IsAside, IsAsideBelow, IsSpared, aside-of, without_aside, taken_so, all_placed_so}
 use Rattle.kb_world.proofs.SoundPuts.{link_put}
-use Rattle.kb_world.proofs.SoundTakes.{below_entry, left-at, left-apart, left-none, HasNoBuilds, source_gone, IsUnlinked, box_gone}
-use Rattle.kb_world.proofs.SoundSteps.{untrue, and_false, and_no, spared_sound, below-entry}
+use Rattle.kb_world.proofs.SoundTakes.{below_entry, left-apart, left-none, HasNoBuilds, source_gone, IsUnlinked, box_gone}
+use Rattle.kb_world.proofs.SoundSteps.{untrue, and_false, spared_sound, below-entry}
 
 -- ---- what lies below the root of modules, and below the chests
 

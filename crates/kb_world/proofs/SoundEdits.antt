@@ -1,11 +1,8 @@
 -- Edits of a tree that keep what every change keeps that spares the entries that tell.
-use Rattle.std.proofs.Common.{◌≡◌, ◌≢◌, ℕ, Bool, true, false, cond, ◌&&◌, ◌||◌, not, List, [], ◌∷◌, ◌++◌, length, drop, Option, Some, None, is_some, codes, refl, sym, ap, ◌∙◌, subst, append_assoc, append-nil}
+use Rattle.std.proofs.Common.{◌≡◌, ◌≢◌, ℕ, Bool, true, false, cond, ◌&&◌, not, List, [], ◌∷◌, ◌++◌, Option, Some, None, codes, refl, sym, ap, ◌∙◌, subst, append_assoc, append-nil}
 use Rattle.std.proofs.lemmas.List.{append_cancel_left}
-use Rattle.std.specs.Prelude.{bytes_eq}
 use Rattle.std.specs.List.{list_any}
 use Rattle.std.specs.FinMap.{keys, remove, get-retain_keys}
-use Rattle.std.specs.Cmp.{first_so, second_so}
-use Rattle.kb_world.specs.Names.{is_version}
 use Rattle.kb_world.specs.Path.{Path, child, is_under}
 use Rattle.kb_world.specs.Tree.{Tree, node_at, with_node, is_dir, is_file}
 use Rattle.kb_world.specs.TreeLaws.{same_path, same_path-true, paths_exact, node_at-with_node, with_node-apart, node_at-remove}

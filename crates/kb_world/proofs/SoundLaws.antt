@@ -1,27 +1,21 @@
 -- What keeps a store sound: changes elsewhere, directories that go, links that go, files for files.
-use Rattle.std.proofs.Common.{◌≡◌, ◌≢◌, ◌⊎◌, inl, inr, ℕ, Bool, true, false, cond, ◌&&◌, ◌||◌, not, List, [], ◌∷◌, ◌++◌, ◌-◌, length, take, drop, map, Option, Some, None, is_some, codes, refl, sym, ap, ◌∙◌, subst, append_assoc, append-nil}
+use Rattle.std.proofs.Common.{◌≡◌, ℕ, Bool, true, false, cond, ◌&&◌, List, [], ◌∷◌, ◌++◌, ◌-◌, length, take, Option, Some, None, is_some, codes, refl, sym, ap, ◌∙◌, subst}
 use Rattle.std.specs.Prelude.{bytes_eq, option_and_then}
-use Rattle.std.specs.List.{list_all, list_any}
-use Rattle.std.specs.FinMap.{keys, remove, get-retain_keys}
+use Rattle.std.specs.List.{list_all}
 use Rattle.std.specs.Cmp.{first_so, second_so}
 use Rattle.std.specs.Cmp.Derive.{both_true}
 use Rattle.std.specs.Cmp.Lexicographic.{bytes_decides}
 use Rattle.kb_world.specs.Names.{is_word, is_version}
-use Rattle.kb_world.specs.Path.{Path, child, is_under}
-use Rattle.kb_world.specs.Tree.{Tree, node_at, with_node, is_dir, is_file, link_text, file_bytes}
-use Rattle.kb_world.specs.TreeLaws.{same_path, same_path-true, same_path-refl, paths_exact, node_at-with_node, with_node-here, with_node-apart, node_at-remove}
-use Rattle.kb_world.specs.Roots.{is_below}
-use Rattle.kb_world.specs.Store.{is_key, is_added, link_path, source_text, says}
+use Rattle.kb_world.specs.Path.{Path}
+use Rattle.kb_world.specs.Tree.{Tree, node_at, is_dir, is_file, link_text, file_bytes}
+use Rattle.kb_world.specs.Store.{is_added, link_path, source_text, says}
 use Rattle.kb_world.specs.Targets.{last_name, targets_of}
-use Rattle.kb_world.specs.Boxes.{is_spot, targets_path, module_file, places_at, is_built, has_files, spot_of_link, spot_tail, version_of, kernel_link_text, linked_at, key_of}
-use Rattle.kb_world.specs.Steps.{with_directory, placed, all_placed, cleared, tidied, tidied_above, taken}
+use Rattle.kb_world.specs.Boxes.{targets_path, module_file, is_built, spot_of_link, spot_tail, version_of, kernel_link_text, key_of}
 use Rattle.kb_world.specs.declared.roots.Roots.{Roots}
-use Rattle.kb_world.specs.declared.job.Key.{Key}
 use Rattle.kb_world.specs.declared.job.Spot.{Spot}
 use Rattle.kb_world.specs.declared.tree.Node.{Node}
 use Rattle.kb_world.specs.declared.tree.Node.TheVariants as node
-use Rattle.kb_world.proofs.StepLaws.{directory-apart}
-use Rattle.kb_world.proofs.DamageLaws.{spot_of, IsSoundBox, IsSound, link_names}
+use Rattle.kb_world.proofs.DamageLaws.{spot_of, IsSound, link_names}
 
 -- ---- which entries below the dkms root tell of links and builds
 

@@ -1,10 +1,8 @@
 -- A link, a build's `targets` and a version's link that are put keep a store sound.
-use Rattle.std.proofs.Common.{◌≡◌, ◌≢◌, ℕ, Bool, true, false, cond, ◌&&◌, ◌||◌, not, List, [], ◌∷◌, ◌++◌, length, drop, map, Option, Some, None, is_some, codes, refl, sym, ap, ◌∙◌, subst}
+use Rattle.std.proofs.Common.{◌≡◌, ◌≢◌, ℕ, Bool, true, false, cond, List, [], ◌∷◌, ◌++◌, Some, None, is_some, codes, refl, sym, ap, ◌∙◌, subst}
 use Rattle.std.proofs.lemmas.List.{append_cancel_left}
 use Rattle.std.specs.Prelude.{bytes_eq, option_and_then}
-use Rattle.std.specs.List.{list_all}
 use Rattle.std.specs.Cmp.{first_so, second_so}
-use Rattle.std.specs.Cmp.Derive.{both_true}
 use Rattle.std.specs.Cmp.Lexicographic.{bytes_decides}
 use Rattle.kb_world.specs.Names.{is_word, is_version, is_kernel, is_arch}
 use Rattle.kb_world.specs.Path.{Path}
@@ -12,13 +10,13 @@ use Rattle.kb_world.specs.Tree.{Tree, node_at, with_node, is_file, link_text, fi
 use Rattle.kb_world.specs.TreeLaws.{same_path, same_path-true, node_at-with_node, with_node-apart}
 use Rattle.kb_world.specs.Store.{is_key, is_added, link_path, source_text, says}
 use Rattle.kb_world.specs.Targets.{last_name, are_targets, targets_text, targets_of}
-use Rattle.kb_world.specs.Boxes.{is_spot, targets_path, module_file, places_at, is_built, has_files, kernel_link_name, spot_of_link, kernel_link_path, kernel_link_text, version_of, linked_at, key_of}
+use Rattle.kb_world.specs.Boxes.{is_spot, targets_path, module_file, is_built, has_files, kernel_link_name, spot_of_link, kernel_link_path, kernel_link_text, version_of, linked_at, key_of}
 use Rattle.kb_world.specs.declared.roots.Roots.{Roots}
 use Rattle.kb_world.specs.declared.job.Key.{Key}
 use Rattle.kb_world.specs.declared.job.Spot.{Spot}
 use Rattle.kb_world.specs.declared.tree.Node.{Node}
 use Rattle.kb_world.specs.declared.tree.Node.TheVariants as node
-use Rattle.kb_world.proofs.DamageLaws.{spot_of, IsSoundBox, IsSound, AreLinksSound, link_names}
+use Rattle.kb_world.proofs.DamageLaws.{spot_of, IsSoundBox, IsSound, link_names}
 use Rattle.kb_world.proofs.SoundLaws.{list_all-so, linked-so, told-version, link-stands}
 use Rattle.kb_world.proofs.SpotLaws.{link_read, text_read}
 use Rattle.kb_world.proofs.TargetsLaws.{printed}

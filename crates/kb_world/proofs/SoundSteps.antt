@@ -1,33 +1,24 @@
 -- No step damages a store.
-use Rattle.std.proofs.Common.{◌≡◌, ◌≢◌, ℕ, Bool, true, false, cond, ◌&&◌, ◌||◌, not, List, [], ◌∷◌, ◌++◌, length, drop, map, Option, Some, None, is_some, codes, refl, sym, ap, ◌∙◌, subst, append_assoc}
-use Rattle.std.specs.Prelude.{bytes_eq, option_and_then}
-use Rattle.std.specs.List.{list_all, list_any}
-use Rattle.std.specs.FinMap.{keys}
-use Rattle.std.specs.Cmp.{first_so, second_so}
+use Rattle.std.proofs.Common.{◌≡◌, ℕ, Bool, true, false, ◌&&◌, List, [], ◌∷◌, ◌++◌, map, codes, refl, sym, ap, ◌∙◌, subst, append_assoc}
+use Rattle.std.specs.Prelude.{bytes_eq}
+use Rattle.std.specs.Cmp.{second_so}
 use Rattle.std.specs.Cmp.Derive.{both_true}
-use Rattle.std.specs.Cmp.Lexicographic.{bytes_decides}
-use Rattle.kb_world.specs.Names.{is_word, is_version, is_kernel, is_arch}
-use Rattle.kb_world.specs.Path.{Path, child, is_under, are_apart}
-use Rattle.kb_world.specs.Tree.{Tree, node_at, with_node, is_dir, is_file, link_text, file_bytes}
-use Rattle.kb_world.specs.TreeLaws.{same_path, same_path-true, with_node-here}
-use Rattle.kb_world.specs.Roots.{AreApart}
-use Rattle.kb_world.specs.Store.{is_key, is_added, module_path, version_path, link_path, source_text, says}
-use Rattle.kb_world.specs.Targets.{last_name, are_targets, targets_of}
-use Rattle.kb_world.specs.Boxes.{is_spot, in_box, targets_path, module_file, places_at, is_built, has_files, boxed, kernel_link_name, kernel_link_path, kernel_link_text, linked_at, installed, key_of, version_of}
-use Rattle.kb_world.specs.Damage.{hurt}
-use Rattle.kb_world.specs.Steps.{with_directory, add_step, placed, all_placed, cleared, tidied, tidied_above, taken, Module, with_modules, build_step, in_kernel, installed_places, is_displaced, install_step, restored, kept_files, displaced, in_chest, built_modules, uninstall_step, unbuild_step, unadd_step}
+use Rattle.kb_world.specs.Names.{is_word, is_version, is_kernel}
+use Rattle.kb_world.specs.Path.{Path, child}
+use Rattle.kb_world.specs.Tree.{Tree, node_at, with_node, is_file, link_text}
+use Rattle.kb_world.specs.TreeLaws.{with_node-here}
+use Rattle.kb_world.specs.Store.{is_key, is_added, module_path, version_path, source_text, says}
+use Rattle.kb_world.specs.Targets.{last_name, are_targets}
+use Rattle.kb_world.specs.Boxes.{in_box, module_file, has_files}
+use Rattle.kb_world.specs.Steps.{with_directory, add_step, placed, Module, with_modules, build_step}
 use Rattle.kb_world.specs.declared.roots.Roots.{Roots}
 use Rattle.kb_world.specs.declared.job.Key.{Key}
 use Rattle.kb_world.specs.declared.job.Spot.{Spot}
-use Rattle.kb_world.specs.declared.tree.Node.{Node}
 use Rattle.kb_world.specs.declared.tree.Node.TheVariants as node
-use Rattle.kb_world.proofs.PathLaws.{under-append, under-self, under-beside, elsewhere, elsewhere-below, by_test}
-use Rattle.kb_world.proofs.PublicLaws.{written_apart}
-use Rattle.kb_world.proofs.DamageLaws.{spot_of, IsSound, IsSoundBox, sound_from, sound_to, under-split}
-use Rattle.kb_world.proofs.SoundLaws.{tells, may_go, Kept, same, gone, filed, Keeps, kept-file, file-firm, sound_kept, added-kept, built-kept, version-of, told-version}
-use Rattle.kb_world.proofs.SoundEdits.{IsAside, IsAsideBelow, IsSpared, aside-of, node_aside, directory_aside, without_aside, file_placed, tidied_above_so, taken_so, placed_so, all_placed_so}
-use Rattle.kb_world.proofs.SoundPuts.{source_put, targets_put, link_put}
-use Rattle.kb_world.proofs.SoundTakes.{below_entry, left-apart, left-none, HasNoBuilds, source_gone, IsUnlinked, box_gone}
+use Rattle.kb_world.proofs.DamageLaws.{IsSound}
+use Rattle.kb_world.proofs.SoundLaws.{tells, kept-file, file-firm, sound_kept, added-kept}
+use Rattle.kb_world.proofs.SoundEdits.{IsAside, IsAsideBelow, IsSpared, aside-of, directory_aside, file_placed, placed_so}
+use Rattle.kb_world.proofs.SoundPuts.{source_put, targets_put}
 use Rattle.kb_world.proofs.SpotLaws.{version_no_link, kernel_no_source}
 
 pub untrue : false ≡ true → ⊥

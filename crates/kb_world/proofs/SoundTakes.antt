@@ -1,25 +1,20 @@
 -- A version's link and a build that are taken away leave a store sound, where nothing stands on them.
-use Rattle.std.proofs.Common.{◌≡◌, ◌≢◌, ℕ, Bool, true, false, cond, ◌&&◌, ◌||◌, not, List, [], ◌∷◌, ◌++◌, length, drop, Option, Some, None, is_some, codes, refl, sym, ap, ◌∙◌, subst}
-use Rattle.std.proofs.lemmas.List.{append_cancel_left}
-use Rattle.std.specs.Prelude.{bytes_eq, option_and_then}
-use Rattle.std.specs.Cmp.{first_so, second_so}
-use Rattle.std.specs.Cmp.Derive.{both_true}
+use Rattle.std.proofs.Common.{◌≡◌, ℕ, Bool, true, false, cond, not, List, [], ◌∷◌, ◌++◌, Some, None, is_some, codes, sym, ap, ◌∙◌}
+use Rattle.std.specs.Prelude.{option_and_then}
+use Rattle.std.specs.Cmp.{first_so}
 use Rattle.std.specs.Cmp.Lexicographic.{bytes_decides}
-use Rattle.kb_world.specs.Names.{is_word, is_version, is_kernel, is_arch}
+use Rattle.kb_world.specs.Names.{is_kernel, is_arch}
 use Rattle.kb_world.specs.Path.{Path, is_under}
 use Rattle.kb_world.specs.Tree.{Tree, node_at, is_file, link_text}
-use Rattle.kb_world.specs.Store.{is_key, is_added, link_path, source_text, says}
+use Rattle.kb_world.specs.Store.{link_path, source_text, says}
 use Rattle.kb_world.specs.Targets.{last_name}
-use Rattle.kb_world.specs.Boxes.{is_spot, in_box, targets_path, module_file, is_built, kernel_link_name, spot_of_link, kernel_link_path, version_of, linked_at, key_of, chest_path}
+use Rattle.kb_world.specs.Boxes.{is_spot, targets_path, is_built, kernel_link_name, spot_of_link, kernel_link_path, version_of, linked_at, key_of}
 use Rattle.kb_world.specs.Steps.{cleared}
 use Rattle.kb_world.specs.declared.roots.Roots.{Roots}
-use Rattle.kb_world.specs.declared.job.Key.{Key}
 use Rattle.kb_world.specs.declared.job.Spot.{Spot}
-use Rattle.kb_world.specs.declared.tree.Node.{Node}
 use Rattle.kb_world.proofs.PathLaws.{under-beside, by_test}
-use Rattle.kb_world.proofs.DamageLaws.{spot_of, IsSoundBox, IsSound, link_names, under-split}
-use Rattle.kb_world.proofs.SoundLaws.{tells, may_go, Kept, same, gone, Keeps}
-use Rattle.kb_world.proofs.SoundEdits.{IsSpared, node_at-cleared}
+use Rattle.kb_world.proofs.DamageLaws.{spot_of, IsSound, link_names, under-split}
+use Rattle.kb_world.proofs.SoundEdits.{node_at-cleared}
 use Rattle.kb_world.proofs.SoundPuts.{box-so, built-so, link-so}
 use Rattle.kb_world.proofs.SpotLaws.{kernel_no_source, link_spotted, link_named}
 

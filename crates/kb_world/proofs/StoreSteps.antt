@@ -1,21 +1,19 @@
 -- No step from a store without damage gives one with damage.
-use Rattle.std.proofs.Common.{◌≡◌, ℕ, Bool, true, false, ◌&&◌, List, map, Option, Some, None, is_some, refl, sym, ap, ◌∙◌}
-use Rattle.std.specs.Prelude.{option_and_then}
+use Rattle.std.proofs.Common.{◌≡◌, ℕ, true, false, List, map, None, is_some, sym, ap, ◌∙◌}
 use Rattle.std.specs.Cmp.{first_so, second_so}
 use Rattle.kb_world.specs.Names.{is_word, is_version, is_kernel, is_arch}
-use Rattle.kb_world.specs.Path.{Path}
 use Rattle.kb_world.specs.Tree.{Tree, node_at}
 use Rattle.kb_world.specs.Roots.{AreApart}
 use Rattle.kb_world.specs.Store.{is_key, is_added}
 use Rattle.kb_world.specs.Targets.{are_targets}
-use Rattle.kb_world.specs.Boxes.{is_spot, targets_path, is_built, kernel_link_name, spot_of_link, key_of}
+use Rattle.kb_world.specs.Boxes.{is_spot, targets_path, is_built, kernel_link_name, spot_of_link}
 use Rattle.kb_world.specs.Damage.{hurt}
 use Rattle.kb_world.specs.Steps.{Module, add_step, build_step, install_step, uninstall_step, unbuild_step, unadd_step}
 use Rattle.kb_world.specs.declared.roots.Roots.{Roots}
 use Rattle.kb_world.specs.declared.job.Key.{Key}
 use Rattle.kb_world.specs.declared.job.Spot.{Spot}
 use Rattle.kb_world.proofs.PathLaws.{by_test}
-use Rattle.kb_world.proofs.DamageLaws.{spot_of, IsSound, sound_from, sound_to}
+use Rattle.kb_world.proofs.DamageLaws.{spot_of, sound_from, sound_to}
 use Rattle.kb_world.proofs.SoundTakes.{HasNoBuilds}
 use Rattle.kb_world.proofs.SoundSteps.{untrue, add_sound, build_sound}
 use Rattle.kb_world.proofs.SoundDrops.{install_sound, uninstall_sound, unbuild_sound, unadd_sound}

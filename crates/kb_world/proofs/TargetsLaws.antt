@@ -1,5 +1,5 @@
 -- What is written of places is read back as these places.
-use Rattle.std.proofs.Common.{◌≡◌, ℕ, ◌+◌, ◌-◌, Bool, true, false, cond, ◌&&◌, ◌||◌, not, List, [], ◌∷◌, ◌++◌, length, take, drop, map, nat_eq, Option, Some, None, codes, refl, sym, ap, ◌∙◌, subst, arith, length-append, append_assoc}
+use Rattle.std.proofs.Common.{◌≡◌, ℕ, ◌-◌, Bool, true, false, cond, ◌&&◌, ◌||◌, not, List, [], ◌∷◌, ◌++◌, length, take, drop, map, nat_eq, Some, None, codes, refl, sym, ap, ◌∙◌, subst, arith, length-append, append_assoc}
 use Rattle.std.proofs.Math.Seq.{take-append_seam}
 use Rattle.std.proofs.lemmas.Bool.{eqb-true}
 use Rattle.std.proofs.lemmas.List.{take-append-drop}
@@ -11,7 +11,7 @@ use Rattle.std.specs.List.{list_all, slice_split, join_with_byte, All}
 use Rattle.std.specs.Cmp.{first_so, second_so}
 use Rattle.std.specs.Cmp.Derive.{both_true}
 use Rattle.std.specs.Cmp.Lexicographic.{bytes_decides}
-use Rattle.kb_world.specs.Names.{is_word, is_one_of, begins_alphanumeric}
+use Rattle.kb_world.specs.Names.{is_word, is_one_of}
 use Rattle.kb_world.specs.Path.{Path}
 use Rattle.kb_world.specs.Refusal.{LINE_FEED}
 use Rattle.kb_world.specs.Targets.{SLASH, is_module_file, leads_to_module, is_area, is_place, are_targets, can_all_share, target_line, targets_text, inner, told_places, targets_of}

@@ -1,5 +1,5 @@
 -- The builds, the installed versions and the kept files of a store. After the tool dkms, and this project's own.
-use Rattle.std.specs.Prelude.{ℕ, ◌-◌, Bool, true, false, ◌&&◌, cond, List, [], ◌∷◌, ◌++◌, length, take, drop, nat_eq, Option, Some, None, is_some, codes, bytes_eq, option_and_then}
+use Rattle.std.specs.Prelude.{ℕ, ◌-◌, Bool, ◌&&◌, cond, List, [], ◌∷◌, ◌++◌, length, take, drop, nat_eq, Option, Some, None, is_some, codes, bytes_eq, option_and_then}
 use Rattle.std.specs.List.{list_all, starts_with}
 use Rattle.std.specs.FinMap.{retain_keys}
 use Rattle.std.specs.Str.{byte}

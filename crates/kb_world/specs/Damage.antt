@@ -1,8 +1,8 @@
 -- What is damaged in a store, and which damaged path is answered. This project's own.
-use Rattle.std.specs.Prelude.{ℕ, Bool, false, ◌&&◌, not, cond, List, [], ◌∷◌, ◌++◌, length, drop, map, filter, flat_map, Option, Some, None, is_some, codes, bytes_eq}
+use Rattle.std.specs.Prelude.{ℕ, Bool, ◌&&◌, not, cond, List, [], ◌∷◌, ◌++◌, length, drop, map, filter, flat_map, Option, Some, None, is_some, codes, bytes_eq}
 use Rattle.std.specs.FinMap.{keys}
 use Rattle.std.specs.Ordering.{is_lt}
-use Rattle.kb_world.specs.Names.{is_word, is_version}
+use Rattle.kb_world.specs.Names.{is_word}
 use Rattle.kb_world.specs.Path.{Path, path_cmp, is_under}
 use Rattle.kb_world.specs.Tree.{Tree, node_at, is_file}
 use Rattle.kb_world.specs.Store.{is_key, is_added, link_path}

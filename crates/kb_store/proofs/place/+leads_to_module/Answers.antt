@@ -1,5 +1,5 @@
 -- Behind a word the other names count.
-use Rattle.std.proofs.Common.{sym, ap, ◌∙◌, ◌&&◌, map}
+use Rattle.std.proofs.Common.{sym, ap, ◌∙◌, ◌&&◌}
 use Rattle.kb_world.specs.Targets.{leads_to_module}
 use Rattle.kb_store.proofs.PlaceLaws.{leads_both, behind_names}
 use Rattle.kb_store.proofs.place.+leads_to_module.Goals as goal

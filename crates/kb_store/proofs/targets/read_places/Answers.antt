@@ -1,5 +1,5 @@
 -- A line gives a place, or the lines are none of places.
-use Rattle.std.proofs.Common.{sym, ◌∙◌, arith, [], Bor}
+use Rattle.std.proofs.Common.{sym, ◌∙◌, arith}
 use Rattle.kb_store.proofs.TargetsLaws.{read_none, read_more, no_line}
 use Rattle.kb_store.proofs.targets.read_places.Goals as goal
 

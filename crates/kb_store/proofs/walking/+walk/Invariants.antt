@@ -1,7 +1,4 @@
-use Rattle.std.proofs.Common.{◌≡◌, ◌+◌, ◌*◌, take, length}
-use Rattle.std.specs.Prelude.{flat_map}
-use Rattle.std.specs.Option.{ForSome}
-use Rattle.kb_store.specs.Walking.{entry_block, walk_on}
+use Rattle.std.proofs.Common.{◌+◌, ◌*◌}
 use Rattle.kb_store.proofs.VisitLaws.{HasVisited}
 use Rattle.kb_store.proofs.walking.+walk.Given as goal
 

@@ -1,5 +1,5 @@
 -- A walk begins with nothing met.
-use Rattle.std.proofs.Common.{◌∙◌, ap, length, ◌+◌, Option, None, List}
+use Rattle.std.proofs.Common.{◌∙◌, ap, length, ◌+◌, None, List}
 use Rattle.kb_store.specs.Walking.{walk_on, walked, entries}
 use Rattle.kb_store.specs.declared.walking.Met.{Met}
 use Rattle.kb_store.proofs.walking.walk_below.Goals as goal
