@@ -2,6 +2,7 @@
 #![tactic(auto)]
 
 mod place;
+mod private;
 mod targets;
 #[cfg(test)]
 mod tests;
