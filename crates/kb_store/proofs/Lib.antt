@@ -1,3 +1,4 @@
+pub mod LinkLaws
 pub mod OrderLaws
 pub mod PlaceLaws
 pub mod TargetsLaws

@@ -1,6 +1,7 @@
 //! What stands below the dkms root: the file `targets` of a build.
 #![tactic(auto)]
 
+mod links;
 mod place;
 mod private;
 mod targets;
@@ -8,6 +9,7 @@ mod targets;
 mod tests;
 mod walking;
 
+pub use links::spot_of_link;
 pub use place::{Places, RelPath};
 pub use targets::{read_targets, write_targets};
 pub use walking::{Met, Skips, Walk, walk_below};
