@@ -43,7 +43,7 @@ link_behind name rest is = ap spot_of_link is
 pub no_link : (name : List ℕ) → ((rest : List ℕ) → name ≡ codes "kernel-" ++ rest → ⊥) → spot_of_link name ≡ None
 no_link name none =
     let other : starts_with nat_eq name (codes "kernel-") ≡ false = by_test (starts_with nat_eq name (codes "kernel-")) (λ e.
-        none (drop 7 name) (sym (take-append-drop 7 name) ∙ ap (λ f. f ++ drop 7 name) (sym ((bytes_decides (codes "kernel-") (take 7 name)).0 e)))) in
+    none (drop 7 name) (sym (take-append-drop 7 name) ∙ ap (λ f. f ++ drop 7 name) (sym ((bytes_decides (codes "kernel-") (take 7 name)).0 e)))) in
     ap (λ b. cond b (option_and_then spot_if (cut_at_dash (drop 7 name))) None) other
 
 -- what the search for the last dash answers

@@ -37,7 +37,7 @@ in_scratch_more path dkms more h =
     let under = first_so (is_under path dkms) (is_scratch (drop (length dkms) path)) h in
     let rest = drop (length dkms) path in
     let tail : drop (length dkms) (path ++ more) ≡ rest ++ more =
-        ap (λ p. drop (length dkms) (p ++ more)) (under-split path dkms under) ∙ ap (drop (length dkms)) (append_assoc dkms rest more) ∙ drop-front dkms (rest ++ more) in
+    ap (λ p. drop (length dkms) (p ++ more)) (under-split path dkms under) ∙ ap (drop (length dkms)) (append_assoc dkms rest more) ∙ drop-front dkms (rest ++ more) in
     both_true (under_more path dkms more under) (ap is_scratch tail ∙ scratch_more rest more (second_so (is_under path dkms) (is_scratch rest) h))
 
 pub private_below : (roots : Roots) (path more : Path) → is_private roots path ≡ true → is_private roots (path ++ more) ≡ true

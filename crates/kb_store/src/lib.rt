@@ -1,6 +1,7 @@
 //! What stands below the dkms root: the file `targets` of a build.
 #![tactic(auto)]
 
+mod entries;
 mod links;
 mod place;
 mod private;
@@ -9,6 +10,7 @@ mod targets;
 mod tests;
 mod walking;
 
+pub use entries::{link_at, places_at};
 pub use links::spot_of_link;
 pub use place::{Places, RelPath};
 pub use targets::{read_targets, write_targets};
