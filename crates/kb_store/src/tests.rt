@@ -1,4 +1,6 @@
 // The file `targets` at its edges.
+mod walks;
+
 use crate::*;
 use std::alloc::{AllocError, Global};
 use std::process::Abort;
