@@ -1,4 +1,6 @@
 pub mod Area
+pub mod Boxes
+pub mod Damage
 pub mod Does
 pub mod Job
 pub mod Moves
@@ -15,6 +17,7 @@ pub mod State
 pub mod Steps
 pub mod Stop
 pub mod Store
+pub mod Targets
 pub mod Tree
 pub mod TreeLaws
 pub mod View

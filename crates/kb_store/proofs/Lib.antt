@@ -1,0 +1,6 @@
+pub mod LinkLaws
+pub mod OrderLaws
+pub mod PlaceLaws
+pub mod TargetsLaws
+pub mod VisitLaws
+pub mod WalkLaws

@@ -1,0 +1,3 @@
+pub mod PrivateLaws
+pub mod Reading
+pub mod Walking

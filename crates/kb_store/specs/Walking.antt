@@ -1,0 +1,58 @@
+-- What a walk meets below a directory, in the order of paths, and where it stops. This project's own.
+use Rattle.std.specs.Prelude.{ℕ, ◌+◌, Bool, true, false, ◌&&◌, ◌||◌, not, cond, List, [], ◌∷◌, ◌++◌, length, filter, nat_le, nat_lt, Option, Some, None}
+use Rattle.std.specs.List.{fold}
+use Rattle.std.specs.FinMap.{keys}
+use Rattle.kb_world.specs.Path.{Path, child}
+use Rattle.kb_world.specs.Roots.{is_below}
+use Rattle.kb_world.specs.Tree.{Tree, node_at, kind_of, is_dir}
+use Rattle.kb_world.specs.declared.tree.Kind.{Kind}
+use Rattle.kb_world.specs.declared.tree.Kind.TheVariants as kind
+use Rattle.kb_store.specs.declared.walking.Met.{Met}
+use Rattle.kb_store.specs.declared.walking.Walk.{Walk}
+
+-- the paths below a directory
+abbrev pub below : Tree → Path → List Path
+below tree directory = filter (λ path. is_below path directory) (keys tree)
+
+-- without those that are skipped
+abbrev pub entries : Tree → (Path → Bool) → Path → List Path
+entries tree skips directory = filter (λ path. not (skips path)) (below tree directory)
+
+-- an entry of a directory, and those below it
+abbrev pub entry_block : Tree → (Path → Bool) → Path → List ℕ → List Path
+entry_block tree skips directory name = cond (skips (child directory name)) [] (child directory name ∷ entries tree skips (child directory name))
+
+-- how many entries a walk meets at most, and how deep below its start a directory may stand
+abbrev pub MOST_ENTRIES : ℕ
+MOST_ENTRIES = 65536
+
+abbrev pub DEEPEST : ℕ
+DEEPEST = 64
+
+-- the path passes a limit: enough was met before it, or a directory stands there that is deeper than this
+abbrev pub passes_limit : Tree → ℕ → List Met → Path → Bool
+passes_limit tree deepest met path = nat_le MOST_ENTRIES (length met) || nat_lt deepest (length path) && is_dir (node_at tree path)
+
+-- what is met at the path: it itself, unless a path before it passed a limit or it does
+abbrev pub meets : Tree → ℕ → Walk → Path → Walk
+meets tree deepest walk path = by walk.over
+  where
+    by : Option Path → Walk
+    by (Some over) = walk
+    by None =
+        cond (passes_limit tree deepest walk.met path) (record { met = walk.met; over = Some path })
+        (record { met = walk.met ++ record { path = path; kind = kind_of (node_at tree path) } ∷ []; over = None })
+
+-- the walk goes on over these paths, in order
+abbrev pub walk_on : Tree → ℕ → Walk → List Path → Walk
+walk_on tree deepest walk paths = fold (meets tree deepest) walk paths
+
+-- A walk: what it meets before the first path that passes a limit, and that path.
+unfoldable pub walked : Tree → (Path → Bool) → Path → Walk
+walked tree skips start = walk_on tree (length start + DEEPEST) (record { met = []; over = None }) (entries tree skips start)
+
+abbrev pub is_dir_kind : Kind → Bool
+is_dir_kind kind.Dir = true
+is_dir_kind kind.Absent = false
+is_dir_kind (kind.File len exec) = false
+is_dir_kind kind.Link = false

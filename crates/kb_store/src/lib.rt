@@ -1,0 +1,17 @@
+//! What stands below the dkms root: the file `targets` of a build.
+#![tactic(auto)]
+
+mod entries;
+mod links;
+mod place;
+mod private;
+mod targets;
+#[cfg(test)]
+mod tests;
+mod walking;
+
+pub use entries::{link_at, places_at};
+pub use links::spot_of_link;
+pub use place::{Places, RelPath};
+pub use targets::{read_targets, write_targets};
+pub use walking::{Met, Skips, Walk, walk_below};

@@ -1,0 +1,142 @@
+// Places of modules, as lists of names below a kernel's directory.
+ghost use Rattle.std.specs.Prelude.{◌≡◌, [], ◌∷◌, ◌++◌, List, ℕ, IfOk, OnOk, OnErr, IsTrue, MatchOption, map, codes};
+ghost use Rattle.std.specs.List.{list_all};
+ghost use Rattle.kb_world.specs.Names.{is_name};
+ghost use Rattle.kb_world.specs.Path.{IsPath};
+ghost use Rattle.kb_world.specs.Targets as rule;
+
+use kb_world::{Text, is_word};
+use std::alloc::{AllocError, Global};
+use std::marker::Model;
+
+/// A path below some directory, as the list of its names.
+#[derive(Debug, Drop)]
+pub struct RelPath {
+    names: Vec<Text>,
+}
+
+impl Model for RelPath {
+    ghost use Rattle.std.specs.Prelude.{List, ℕ, IsTrue};
+    ghost use Rattle.std.specs.List.{list_all};
+    ghost use Rattle.kb_world.specs.Names.{is_name};
+
+    ghost Value = { List (List ℕ) };
+
+    ghost view = { λ p. p.names.items };
+
+    ghost invariant = { λ p. IsTrue (list_all is_name p.names.items) };
+}
+
+impl RelPath {
+    /// The path with these names.
+    pub fn new(names: Vec<Text>) -> RelPath
+        requires { IsTrue (list_all is_name names.items) }
+        ensures { result ≡ names.items }
+    {
+        RelPath { names }
+    }
+
+    /// The names, from the directory on.
+    pub fn names(&self) -> &[Text]
+        ensures all { result.now ≡ self.now }
+        ensures named { IsPath self.now }
+    {
+        &self.names
+    }
+}
+
+impl Clone for RelPath {
+    ghost is_clone = { λ path made. made ≡ path };
+
+    fn clone(&self) -> Result<Self, AllocError> {
+        Ok(RelPath {
+            names: self.names.clone()?,
+        })
+    }
+}
+
+/// A list of paths below some directory.
+pub type Places = kb_world::Sequence<RelPath>;
+
+// What stands before the ending of a module's file.
+fn module_of(name: &str) -> Option<&str>
+    ensures { MatchOption result ((front : List ℕ) → name.now ≡ front ++ codes ".ko" → ⊥) (λ front. name.now ≡ front.now ++ codes ".ko") }
+{
+    name.strip_suffix(".ko")
+}
+
+fn is_module_file(name: &str) -> bool
+    ensures { result ≡ rule.is_module_file name.now }
+{
+    match module_of(name) {
+        Some(front) => is_word(front),
+        None => false,
+    }
+}
+
+fn is_area(name: &str) -> bool
+    ensures { result ≡ rule.is_area name.now }
+{
+    name == "kernel" || name == "updates" || name == "extra"
+}
+
+// Whether the names are words, and last a module's file.
+fn leads_to_module(names: &[&str]) -> bool
+    ensures { result ≡ rule.leads_to_module (map (λ name. name.now) names.now) }
+{
+    match names {
+        [] => false,
+        [name, rest @ ..] => {
+            if rest.is_empty() {
+                is_module_file(name)
+            } else {
+                is_word(name) && leads_to_module(rest)
+            }
+        }
+    }
+}
+
+/// Whether the names are those of a place that a module can be put at.
+pub fn is_place(names: &[&str]) -> bool
+    ensures { result ≡ rule.is_place (map (λ name. name.now) names.now) }
+{
+    match names {
+        [] => false,
+        [area, rest @ ..] => is_area(area) && leads_to_module(rest),
+    }
+}
+
+// The last name; none where there is no name.
+fn last_name(place: &RelPath) -> &str
+    ensures { result.now ≡ rule.last_name place.now }
+{
+    match place.names().last() {
+        Some(name) => name.as_str(),
+        None => "",
+    }
+}
+
+fn is_apart(a: &RelPath, b: &RelPath) -> bool
+    ensures { result ≡ rule.can_share a.now b.now }
+{
+    last_name(a) != last_name(b)
+        && !a.names().starts_with(b.names())
+        && !b.names().starts_with(a.names())
+}
+
+// Whether the place can stand beside each of these.
+fn can_join(place: &RelPath, others: &[RelPath]) -> bool
+    ensures { result ≡ list_all (rule.can_share place.now) others.now }
+{
+    others.iter().all(|other| is_apart(place, other))
+}
+
+/// Whether no two places have one last name, and none is above another.
+pub fn can_all_share(places: &[RelPath]) -> bool
+    ensures { result ≡ rule.can_all_share places.now }
+{
+    match places {
+        [] => true,
+        [place, rest @ ..] => can_join(place, rest) && can_all_share(rest),
+    }
+}

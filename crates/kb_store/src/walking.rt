@@ -1,0 +1,128 @@
+// A walk: every entry below a directory, in the order of paths.
+ghost use Rattle.std.specs.Prelude.{◌≡◌, ◌||◌, ◌&&◌, nat_le, nat_eq, ◌+◌, ◌++◌, List, ℕ, Bool, true, length, IfOk, OnOk, IsTrue};
+ghost use Rattle.std.specs.Option.{ForSome};
+ghost use Rattle.kb_world.specs.Names.{is_name};
+ghost use Rattle.kb_world.specs.Tree.{node_at, is_dir};
+ghost use Rattle.kb_world.specs.State.{Looks};
+ghost use Rattle.kb_store.specs.Walking.{entries, entry_block, walk_on, walked, is_dir_kind};
+
+use kb_world::{Kind, Path, Sequence, Text, World, WorldError};
+use std::alloc::Global;
+
+const MOST_ENTRIES: usize = 65536;
+
+const DEEPEST: u64 = 64;
+
+/// An entry that a walk met.
+#[derive(Debug, Drop)]
+pub struct Met {
+    pub path: Path,
+    pub kind: Kind,
+}
+
+/// What a walk met: the entries before the first one that passes a limit, and that one's path.
+#[derive(Debug, Drop)]
+pub struct Walk {
+    pub met: Sequence<Met>,
+    pub over: Option<Path>,
+}
+
+/// Which entries a walk neither counts nor enters.
+pub trait Skips {
+    ghost skips: { Self → List (List ℕ) → Bool };
+
+    /// Whether the entry at the path is skipped.
+    fn skips(&self, path: &Path) -> bool
+        ensures { result ≡ skips self.now path.now };
+
+    /// What is below a skipped entry is skipped.
+    ghost deeper: { (it : Self) (path more : List (List ℕ)) → skips it path ≡ true → skips it (path ++ more) ≡ true };
+}
+
+impl Walk {
+    // Whether an entry of this kind passes a limit, where directories may stand so much deeper.
+    fn is_passed(&self, kind: Kind, depth: u64) -> bool
+        ensures { result ≡ (nat_le MOST_ENTRIES (length self.now.met) || nat_eq depth 0 && is_dir_kind kind) }
+    {
+        self.met.as_slice().len() >= MOST_ENTRIES || (depth == 0 && matches!(kind, Kind::Dir))
+    }
+}
+
+#[cycle(walk)]
+fn visit<W: World, S: Skips>(
+    alloc: Global,
+    world: &mut W,
+    skips: &S,
+    directory: &Path,
+    depth: u64,
+    walk: &mut Walk,
+) -> Result<(), WorldError>
+    requires { ForSome (W.state world.old).tree (λ tree. is_dir (node_at tree directory.now) ≡ true) }
+    ensures met { OnOk result (ForSome (W.state world.old).tree (λ tree.
+        walk.new ≡ walk_on tree (length directory.now + depth) walk.old (entries tree (S.skips skips.now) directory.now))) }
+    ensures same { Looks (W.state world.old) (W.state world.new) result }
+{
+    let names = world.list(alloc, directory)?;
+    for name in &names {
+        visit_entry(alloc, world, skips, directory, name, depth, walk)?;
+    }
+    Ok(())
+}
+
+#[cycle(walk)]
+fn visit_entry<W: World, S: Skips>(
+    alloc: Global,
+    world: &mut W,
+    skips: &S,
+    directory: &Path,
+    name: &Text,
+    depth: u64,
+    walk: &mut Walk,
+) -> Result<(), WorldError>
+    requires { IsTrue (is_name name.now) }
+    ensures met { OnOk result (ForSome (W.state world.old).tree (λ tree.
+        walk.new ≡ walk_on tree (length directory.now + depth) walk.old (entry_block tree (S.skips skips.now) directory.now name.now))) }
+    ensures same { Looks (W.state world.old) (W.state world.new) result }
+{
+    let path = directory.child(alloc, name.as_str())?;
+    if walk.over.is_some() {
+        return Ok(());
+    }
+    if skips.skips(&path) {
+        return Ok(());
+    }
+    let kind = world.look(alloc, &path)?;
+    if walk.is_passed(kind, depth) {
+        walk.over = Some(path);
+        return Ok(());
+    }
+    walk.met.push(Met {
+        path: path.clone()?,
+        kind,
+    })?;
+    match kind {
+        Kind::Dir => visit(alloc, world, skips, &path, depth - 1, walk),
+        _ => Ok(()),
+    }
+}
+
+/// Walks over every entry below a directory, in the order of paths, but for those that are skipped. It meets at most
+/// 65,536 entries and enters directories up to 64 below the start: the first path that is one too many, or that of a
+/// directory one too deep, ends it.
+pub fn walk_below<W: World, S: Skips>(
+    alloc: Global,
+    world: &mut W,
+    skips: &S,
+    start: &Path,
+) -> Result<Walk, WorldError>
+    requires { ForSome (W.state world.old).tree (λ tree. is_dir (node_at tree start.now) ≡ true) }
+    ensures met { IfOk result (λ walk. ForSome (W.state world.old).tree (λ tree. walk ≡ walked tree (S.skips skips.now) start.now)) }
+    ensures same { Looks (W.state world.old) (W.state world.new) result }
+{
+    let mut walk = Walk {
+        met: Sequence::new(alloc),
+        over: None,
+    };
+    visit(alloc, world, skips, start, DEEPEST, &mut walk)?;
+    Ok(walk)
+}
