@@ -12,7 +12,7 @@ use Rattle.kb_conf.specs.Values.{Values}
 use Rattle.kb_conf.specs.Meaning.{Said, meaning_of}
 use Rattle.kb_conf.specs.Reading.{drop_returns, IsGood, IsBadLine}
 use Rattle.kb_conf.specs.Conf.{values_in, conf_in, conf_from, conf_of}
-use Rattle.kb_conf.specs.Read.{IsRead}
+use Rattle.kb_world.specs.Read.{IsRead}
 use Rattle.kb_conf.proofs.MeaningLaws.{is_meaning}
 
 pub good_values : (g : Given) (text : List ℕ) (values : Values) → IsGood g text values → values_in (meaning_of g text) ≡ Ok values

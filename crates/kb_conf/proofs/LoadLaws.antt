@@ -16,7 +16,7 @@ use Rattle.kb_world.specs.declared.stop.Stop.TheVariants.{Refused, Fault, NoMemo
 use Rattle.kb_conf.specs.declared.conf.Conf.{Conf}
 use Rattle.kb_conf.specs.Assignment.{Given}
 use Rattle.kb_conf.specs.Conf.{conf_of}
-use Rattle.kb_conf.specs.Read.{IsRead}
+use Rattle.kb_world.specs.Read.{IsRead}
 use Rattle.kb_conf.specs.Load.{conf_path, bytes_at, no_conf, no_source, matched, after, loaded_conf, IsAnswer, Gives, GivesFile}
 
 -- where no refusal of the source is due, its conf is a file

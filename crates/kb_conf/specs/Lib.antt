@@ -24,5 +24,4 @@ pub mod Checks
 pub mod Fields
 pub mod Meaning
 pub mod Conf
-pub mod Read
 pub mod Load

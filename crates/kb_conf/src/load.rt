@@ -4,7 +4,7 @@ ghost use Rattle.std.specs.Option.{ForSome, option_copied};
 ghost use Rattle.kb_conf.specs.Conf.{conf_of};
 ghost use Rattle.kb_conf.specs.Load as rule;
 ghost use Rattle.kb_conf.specs.Load.{Gives, GivesFile};
-ghost use Rattle.kb_conf.specs.Read.{IsRead};
+ghost use Rattle.kb_world.specs.Read.{IsRead};
 ghost use Rattle.kb_world.specs.Does.{Decides};
 ghost use Rattle.kb_world.specs.Tree.{node_at, is_file};
 

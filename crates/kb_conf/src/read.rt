@@ -2,7 +2,7 @@
 ghost use Rattle.std.specs.Prelude.{◌≤◌, length};
 ghost use Rattle.kb_conf.specs.Conf as rule;
 ghost use Rattle.kb_conf.specs.Meaning.{meaning_of};
-ghost use Rattle.kb_conf.specs.Read.{IsRead};
+ghost use Rattle.kb_world.specs.Read.{IsRead};
 ghost use Rattle.kb_conf.specs.TextOf.{IsTextGiven};
 
 use super::checks::value_refusal;

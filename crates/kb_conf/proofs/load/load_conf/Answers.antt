@@ -2,7 +2,7 @@ use Rattle.std.proofs.Common.{ℕ, List, subst}
 use Rattle.std.specs.Option.{option_copied}
 use Rattle.kb_conf.specs.Conf.{conf_of}
 use Rattle.kb_conf.specs.Load.{matched}
-use Rattle.kb_conf.specs.Read.{IsRead}
+use Rattle.kb_world.specs.Read.{IsRead}
 use Rattle.kb_conf.proofs.LoadLaws.{gives_refused, gives_read}
 use Rattle.kb_conf.proofs.load.load_conf.Goals as goal
 
