@@ -2,11 +2,11 @@
 use Rattle.std.proofs.Common.{◌≡◌, [], ◌∷◌, length, Bool, true, false, cond, Option, Some, None, is_some, Result, Ok, Err, OnOk, OnErr, IsTrue, refl, sym, ap, subst, ◌∙◌, arith, length-take}
 use Rattle.std.specs.FinMap.{empty}
 use Rattle.kb_world.specs.Path.{Path, parent}
-use Rattle.kb_world.specs.Tree.{Tree, node_at, is_dir, IsFormed, CanMake}
+use Rattle.kb_world.specs.Tree.{Tree, node_at, is_dir, edited, IsFormed, CanMake}
 use Rattle.kb_world.specs.TreeLaws.{same_path, same_path-true, node_at-with_node, node_at-remove, node_at-empty}
 use Rattle.kb_world.specs.declared.tree.Node.{Node}
 use Rattle.kb_world.specs.declared.tree.Node.TheVariants.{Dir}
-use Rattle.kb_memory.specs.Edits.{root_alone, edited, CanPlace}
+use Rattle.kb_memory.specs.Edits.{root_alone, CanPlace}
 
 never : IsTrue false → ⊥
 never h = cc

@@ -1,12 +1,12 @@
 -- What a plan says of steadiness and of the count of faults.
-use Rattle.std.proofs.Common.{◌≡◌, ◌+◌, ◌-◌, ◌^◌, ◌≤◌, ℕ, min, [], ◌∷◌, Bool, true, false, IsTrue, IsErrOf, Result, Ok, Err, OnOk, OnErr, Option, Some, None, List, append-nil, refl, sym, ap, ◌∙◌, arith}
+use Rattle.std.proofs.Common.{◌≡◌, ◌+◌, ◌-◌, ◌^◌, ◌≤◌, ℕ, min, [], ◌∷◌, Bool, true, false, IsTrue, IsErrOf, IsErrAnd, Result, Ok, Err, OnOk, OnErr, Option, Some, None, List, append-nil, refl, sym, ap, ◌∙◌, arith}
 use Rattle.std.proofs.lemmas.Grind.{common_steps}
-use Rattle.kb_world.specs.State.{State, Rose, Looks}
+use Rattle.kb_world.specs.State.{State, Rose, HasCause, RanNone, Looks}
 use Rattle.kb_world.specs.SinkState.{SinkState, Writes, grown}
 use Rattle.kb_world.specs.declared.sink.SinkError.{SinkError}
 use Rattle.kb_world.specs.declared.sink.SinkError.TheVariants as sink_error
 use Rattle.kb_world.specs.declared.world.WorldError.{WorldError}
-use Rattle.kb_world.specs.declared.world.WorldError.TheVariants.{Failed}
+use Rattle.kb_world.specs.declared.world.WorldError.TheVariants.{Failed, NoMemory}
 use Rattle.kb_memory.specs.Plan.{Plan, is_due, is_over, after_call, risen}
 
 -- a plan that is over stays so
@@ -24,21 +24,33 @@ pub rose : (due : Bool) (before now : ℕ) → now ≡ risen due before → IsTr
 rose true before now faults due = let e : now ≡ min (before + 1) (2 ^ 64 - 1) = faults in omega arith
 rose false before now faults due = cc
 
+-- a call fails by its plan alone
+pub planned : {T : Type 0} (old new : State) (result : Result T WorldError) (plan : Plan)
+    → old.faults ≤ new.faults → new.faults ≡ risen (is_due plan) old.faults → old.steady ≡ is_over plan → new.steady ≡ is_over (after_call plan)
+    → (IsErrOf result Failed → IsTrue (is_due plan)) → HasCause Failed old new result
+planned old new result plan later faults was_steady is_steady due = record {
+  later = later;
+  rose = λ e. rose (is_due plan) old.faults new.faults faults (due e);
+  steady = λ steady. is_steady ∙ over-after plan (sym was_steady ∙ steady);
+  never = λ steady e. over-due plan (sym was_steady ∙ steady) (due e);
+}
+
 -- a call that only looks, under its plan
 pub looks : {T : Type 0} (old new : State) (result : Result T WorldError) (plan : Plan)
-    → new.tree ≡ old.tree → new.roots ≡ old.roots → old.faults ≤ new.faults → new.faults ≡ risen (is_due plan) old.faults
+    → new.tree ≡ old.tree → RanNone old new → old.faults ≤ new.faults → new.faults ≡ risen (is_due plan) old.faults
     → old.steady ≡ is_over plan → new.steady ≡ is_over (after_call plan)
     → (IsErrOf result Failed → IsTrue (is_due plan)) → Looks old new result
-looks old new result plan tree roots later faults was_steady is_steady due = record {
+looks old new result plan tree ran_none later faults was_steady is_steady due = record {
   tree = tree;
-  roots = roots;
-  cause = record {
-    later = later;
-    rose = λ e. rose (is_due plan) old.faults new.faults faults (due e);
-    steady = λ steady. is_steady ∙ over-after plan (sym was_steady ∙ steady);
-    never = λ steady e. over-due plan (sym was_steady ∙ steady) (due e);
-  };
+  ran_none = ran_none;
+  cause = planned old new result plan later faults was_steady is_steady due;
 }
+
+-- want of memory is no failure
+pub not_failed : {T : Type 0} (result : Result T WorldError) → IsErrAnd result (λ e. e ≡ NoMemory) → IsErrOf result Failed → ⊥
+not_failed (Ok value) want failed = cc
+not_failed (Err Failed) want failed = cc
+not_failed (Err NoMemory) want failed = cc
 
 -- nothing is written on to it
 unwritten : (written : Option (List ℕ)) → written ≡ grown [] written

@@ -1,12 +1,14 @@
 -- What a world in memory means. This project's own.
-use Rattle.std.specs.Prelude.{◌≡◌, ◌↔◌, true, Some, Result, IsErrOf, IsTrue, unwrap_or}
+use Rattle.std.specs.Prelude.{◌≡◌, ◌↔◌, true, List, [], ◌∷◌, ◌++◌, Some, Result, Ok, Err, IsErrOf, IsTrue, unwrap_or}
 use Rattle.std.specs.Option.{ForSome}
 use Rattle.std.proofs.Common.{ap, subst}
 use Rattle.kb_world.specs.Tree.{Tree, IsFormed}
+use Rattle.kb_world.specs.Script.{Script}
 use Rattle.kb_world.specs.State.{State}
 use Rattle.kb_world.specs.declared.roots.Roots.{Roots}
+use Rattle.kb_world.specs.declared.child.Request.{Request}
 use Rattle.kb_world.specs.declared.world.WorldError.{WorldError}
-use Rattle.kb_world.specs.declared.world.WorldError.TheVariants.{Failed}
+use Rattle.kb_world.specs.declared.world.WorldError.TheVariants.{Failed, NoMemory}
 use Rattle.kb_memory.specs.Edits.{root_alone}
 use Rattle.kb_memory.specs.Plan.{Plan, is_due, is_over, after_call, risen}
 use Rattle.kb_memory.specs.declared.world.MemoryWorld.{MemoryWorld}
@@ -24,6 +26,8 @@ abbrev pub state_of : MemoryWorld → State
 state_of world = record {
   tree = Some (tree_of world);
   roots = world.roots;
+  script = world.script.items;
+  ran = world.ran.items;
   faults = world.failures.faults;
   steady = is_over (plan_of world);
 }
@@ -33,8 +37,8 @@ pub told_formed : (world : MemoryWorld) → ForSome (state_of world).tree IsForm
 told_formed world tree told = subst IsFormed (ap (λ at. unwrap_or at tree) told) world.formed
 
 -- the state of a new world
-abbrev pub new_state : Roots → State
-new_state roots = record { tree = Some root_alone; roots = roots; faults = 0; steady = true }
+abbrev pub new_state : Roots → Script → State
+new_state roots script = record { tree = Some root_alone; roots = roots; script = script; ran = []; faults = 0; steady = true }
 
 -- A call fails exactly where it is due to, and then it leaves the tree as it was. Each call counts as one.
 pub record FollowsPlan {T : Type 0} (old new : MemoryWorld) (result : Result T WorldError) : Type 0 where
@@ -42,3 +46,9 @@ pub record FollowsPlan {T : Type 0} (old new : MemoryWorld) (result : Result T W
   pub faults : (state_of new).faults ≡ risen (is_due (plan_of old)) (state_of old).faults
   pub plan : plan_of new ≡ after_call (plan_of old)
   pub undone : IsErrOf result Failed → (state_of new).tree ≡ (state_of old).tree
+
+-- the requests so far after one more was recorded, or found no memory for that
+abbrev pub IsRecorded : {T : Type 0} → Request → List Request → List Request → Result T WorldError → Type 0
+IsRecorded request before now (Ok value) = now ≡ before ++ request ∷ []
+IsRecorded request before now (Err Failed) = now ≡ before ++ request ∷ []
+IsRecorded request before now (Err NoMemory) = now ≡ before

@@ -4,6 +4,7 @@
 
 mod failures;
 mod nodes;
+mod script;
 mod sink;
 mod world;
 

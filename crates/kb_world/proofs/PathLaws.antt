@@ -1,11 +1,12 @@
 -- Which paths lie below which.
-use Rattle.std.proofs.Common.{◌≡◌, ℕ, Bool, true, false, ◌&&◌, ◌||◌, not, List, [], ◌∷◌, ◌++◌, length, drop, Some, None, refl, sym, ap, ◌∙◌, subst, inl, inr, ◌⊎◌}
+use Rattle.std.proofs.Common.{◌≡◌, ℕ, zero, suc, Bool, true, false, ◌&&◌, ◌||◌, not, List, [], ◌∷◌, ◌++◌, length, take, drop, Some, None, refl, sym, ap, ◌∙◌, subst, inl, inr, ◌⊎◌}
 use Rattle.std.specs.Prelude.{bytes_eq}
 use Rattle.std.specs.List.{slice_get}
 use Rattle.std.specs.Cmp.{first_so, second_so}
 use Rattle.std.specs.Cmp.Derive.{both_true}
 use Rattle.std.specs.Cmp.Lexicographic.{bytes_decides}
-use Rattle.kb_world.specs.Path.{Path, is_under, are_apart}
+use Rattle.kb_world.specs.Names.{is_name}
+use Rattle.kb_world.specs.Path.{Path, IsPath, is_under, are_apart}
 
 same_name : (a b : List ℕ) → bytes_eq a b ≡ true → a ≡ b
 same_name a b = (bytes_decides a b).0
@@ -106,6 +107,22 @@ under_no_entry (m ∷ p) (n ∷ a) name names h e f =
 -- nor is what isn't under the directory
 pub under_other : (p a : Path) (name : List ℕ) → is_under p a ≡ false → is_under p (a ++ name ∷ []) ≡ false
 under_other p a name h = by_test (is_under p (a ++ name ∷ [])) (λ k. let q : true ≡ false = sym (under-above p a (name ∷ []) k) ∙ h in cc)
+
+-- the names behind the first so many are names
+pub named_behind : (path : Path) (n : ℕ) → IsPath path → IsPath (drop n path)
+named_behind [] zero named = named
+named_behind [] (suc n) named = named
+named_behind (name ∷ path) zero named = named
+named_behind (name ∷ path) (suc n) named = named_behind path n (second_so (is_name name) _ named)
+
+pub named_front : (path : Path) (n : ℕ) → IsPath path → IsPath (take n path)
+named_front [] zero named = named
+named_front [] (suc n) named = named
+named_front (name ∷ path) zero named = refl
+named_front (name ∷ path) (suc n) named = both_true (first_so (is_name name) _ named) (named_front path n (second_so (is_name name) _ named))
+
+pub named_part : (path names : Path) (m n : ℕ) → names ≡ path → IsPath path → IsPath (take m (drop n names))
+named_part path names m n is named = named_front (drop n names) m (named_behind names n (subst IsPath (sym is) named))
 
 -- seven tests, one after another or nested
 pub regrouped : (a b c d e f g : Bool) → ((((((a || b) || c) || d) || e) || f) || g) ≡ (a || (b || (c || (d || (e || (f || (g || false)))))))

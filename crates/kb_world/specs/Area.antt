@@ -6,13 +6,13 @@ use Rattle.kb_world.specs.Tree.{Tree, node_at, is_dir, name_in}
 use Rattle.kb_world.specs.declared.child.Area.{Area}
 use Rattle.kb_world.specs.declared.child.Area.TheVariants as areas
 
+abbrev pub is_among : List (List ℕ) → Option (List ℕ) → Bool
+is_among names (Some name) = list_any (bytes_eq name) names
+is_among names None = false
+
 -- the path is that of one of these names in the directory
 abbrev pub is_named : Path → List (List ℕ) → Path → Bool
-is_named directory names path = is_among (name_in directory path)
-  where
-    is_among : Option (List ℕ) → Bool
-    is_among (Some name) = list_any (bytes_eq name) names
-    is_among None = false
+is_named directory names path = is_among names (name_in directory path)
 
 -- The path is in the area: a directory with all below it, or a path of one of the names where no directory stands.
 abbrev pub holds : Area → Tree → Path → Bool

@@ -68,14 +68,15 @@ file_bytes None = None
 abbrev pub is_leaf : Option Node → Bool
 is_leaf at = is_some at && not (is_dir at)
 
+-- the name, where it is the only one
+abbrev pub sole : List (List ℕ) → Option (List ℕ)
+sole (name ∷ []) = Some name
+sole (name ∷ more ∷ rest) = None
+sole [] = None
+
 -- the name of an entry of the directory, if the path is that of one
 abbrev pub name_in : Path → Path → Option (List ℕ)
-name_in directory path = cond (is_under path directory) (alone (drop (length directory) path)) None
-  where
-    alone : Path → Option (List ℕ)
-    alone (name ∷ []) = Some name
-    alone (name ∷ more ∷ rest) = None
-    alone [] = None
+name_in directory path = cond (is_under path directory) (sole (drop (length directory) path)) None
 
 -- the names of the directory's entries, each once, by bytes, since the paths of a tree are in order
 abbrev pub children : Tree → Path → List (List ℕ)

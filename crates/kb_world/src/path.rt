@@ -1,5 +1,5 @@
 // Paths of the tree, as lists of names from the root.
-ghost use Rattle.std.specs.Prelude.{◌≡◌, ◌≢◌, ◌==◌, List, ℕ, [], ◌∷◌, IfOk, IsErrOf, IsTrue, MatchOption, Some, true, false, drop, length, map, refl, nat_eq};
+ghost use Rattle.std.specs.Prelude.{◌≡◌, ◌≢◌, ◌==◌, List, ℕ, [], ◌∷◌, IfOk, IfSome, IsErrOf, IsTrue, MatchOption, Some, true, false, drop, length, map, refl, nat_eq};
 ghost use Rattle.std.specs.List.{slice_split};
 ghost use Rattle.std.specs.Str.{byte};
 ghost use Rattle.std.specs.Ordering.{nat_cmp};
@@ -8,7 +8,7 @@ ghost use Rattle.std.specs.Cmp.Lexicographic.{pointwise, lists_total, lists_equi
 ghost use Rattle.kb_world.specs.Names.{is_name};
 ghost use Rattle.std.specs.Option.{option_copied};
 ghost use Rattle.kb_world.specs.Path.{IsPath, path_text, child, parent, is_under, path_cmp};
-ghost use Rattle.kb_world.specs.Tree.{name_in};
+ghost use Rattle.kb_world.specs.Tree.{name_in, sole};
 ghost use Rattle.kb_world.specs.declared.path.PathError.TheVariants.{NotAPath, NoMemory};
 
 use crate::names::is_name;
@@ -91,6 +91,17 @@ fn names_of(alloc: Global, parts: &[&str]) -> Result<Vec<Text>, PathError>
     Ok(names)
 }
 
+// The name, where it is the only one.
+fn sole(names: &[Text]) -> Option<&Text>
+    ensures name { option_copied result ≡ sole names.now }
+    ensures named { IsPath names.now → IfSome result (λ name. IsTrue (is_name name.now)) }
+{
+    match names {
+        [name] => Some(name),
+        _ => None,
+    }
+}
+
 impl Path {
     /// The path of the root directory.
     pub fn root(alloc: Global) -> Path
@@ -148,11 +159,12 @@ impl Path {
 
     /// The name of the directory's entry that the path is the path of, if it is one's.
     pub fn name_in(&self, directory: &Path) -> Option<&Text>
-        ensures { option_copied result ≡ name_in directory.now self.now }
+        ensures name { option_copied result ≡ name_in directory.now self.now }
+        ensures named { IfSome result (λ name. IsTrue (is_name name.now)) }
     {
         match self.below(directory) {
-            Some([name]) => Some(name),
-            _ => None,
+            Some(names) => sole(names),
+            None => None,
         }
     }
 
@@ -173,8 +185,9 @@ impl Path {
 
     /// The names behind the directory's, where the path is the directory or lies below it.
     pub fn below(&self, directory: &Path) -> Option<&[Text]>
-        ensures { MatchOption result (is_under self.now directory.now ≡ false)
+        ensures names { MatchOption result (is_under self.now directory.now ≡ false)
             (λ names. (is_under self.now directory.now ≡ true) × (names.now ≡ drop (length directory.now) self.now)) }
+        ensures named { IfSome result (λ names. IsPath names.now) }
     {
         if self.is_under(directory) {
             Some(&self.names[directory.names.len()..])
