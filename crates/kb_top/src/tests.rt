@@ -8,6 +8,8 @@ use std::process::Abort;
 use std::str;
 use std::test::Fail;
 
+mod settings;
+
 // What stands somewhere before the command: its directory, its name and what it is.
 enum What {
     Dir,
@@ -83,7 +85,11 @@ fn put_all(
 
 // It says nothing of the world that it makes, so that nothing has to be carried along.
 fn empty_world(alloc: Global) -> Result<MemoryWorld, AllocError> {
-    MemoryWorld::new(alloc, Roots::under(alloc, &Path::root(alloc))?)
+    MemoryWorld::new(
+        alloc,
+        Roots::under(alloc, &Path::root(alloc))?,
+        Vec::new(alloc),
+    )
 }
 
 fn plain_world(rt: &impl Abort, alloc: Global) -> Result<MemoryWorld, Fail> {
@@ -112,17 +118,30 @@ fn text_of(alloc: Global, sink: &MemorySink) -> Result<String, Fail> {
     Ok(String::from_str(alloc, str::from_utf8(sink.bytes())?)?)
 }
 
-// Runs the words over the world and the sinks, with nothing set but the kernel and the architecture.
+// What the environment has for the root and for the boot.
+struct Set(Option<&'static str>, Option<&'static str>);
+
+const NOTHING_SET: Set = Set(None, None);
+
+fn text_if_any(alloc: Global, text: Option<&str>) -> Result<Option<Text>, AllocError> {
+    match text {
+        Some(text) => Ok(Some(Text::of(alloc, text)?)),
+        None => Ok(None),
+    }
+}
+
+// Runs the words over the world and the sinks.
 fn start_with(
     alloc: Global,
     world: &mut MemoryWorld,
+    set: &Set,
     words: &[&str],
     out: &mut MemorySink,
     err: &mut MemorySink,
 ) -> Result<u8, AllocError> {
     let setting = Setting {
-        root: None,
-        boot: None,
+        root: text_if_any(alloc, set.0)?,
+        boot: text_if_any(alloc, set.1)?,
         release: Some(Text::of(alloc, "6.1.0")?),
         machine: Some(Text::of(alloc, "x86_64")?),
     };
@@ -130,15 +149,24 @@ fn start_with(
     Ok(start(alloc, &words, &setting, world, out, err).code())
 }
 
-fn answer_to(alloc: Global, world: &mut MemoryWorld, words: &[&str]) -> Result<Answer, Fail> {
+fn answer_with(
+    alloc: Global,
+    world: &mut MemoryWorld,
+    set: &Set,
+    words: &[&str],
+) -> Result<Answer, Fail> {
     let mut out = MemorySink::new(alloc);
     let mut err = MemorySink::new(alloc);
-    let status = start_with(alloc, world, words, &mut out, &mut err)?;
+    let status = start_with(alloc, world, set, words, &mut out, &mut err)?;
     Ok(Answer {
         status,
         out: text_of(alloc, &out)?,
         err: text_of(alloc, &err)?,
     })
+}
+
+fn answer_to(alloc: Global, world: &mut MemoryWorld, words: &[&str]) -> Result<Answer, Fail> {
+    answer_with(alloc, world, &NOTHING_SET, words)
 }
 
 // The text of the link at the path, if there is one.
@@ -164,6 +192,7 @@ fn adds_once(
     assert!(rt; again.status == 4);
     assert!(rt; again.out.is_empty());
     assert!(rt; again.err.as_str() == "kmodboot: hello/1.0: already added\n");
+    assert!(rt; world.requests().is_empty());
     Ok(())
 }
 
@@ -442,7 +471,7 @@ fn cuts_short(rt: &impl Abort, alloc: Global, world: &mut MemoryWorld) -> Result
     let mut out = MemorySink::new(alloc);
     let mut err = MemorySink::new(alloc);
     out.fail_at(vec![in alloc; 1]?);
-    let status = start_with(alloc, world, &ADD_HELLO, &mut out, &mut err)?;
+    let status = start_with(alloc, world, &NOTHING_SET, &ADD_HELLO, &mut out, &mut err)?;
     assert!(rt; status == 74);
     Ok(())
 }
