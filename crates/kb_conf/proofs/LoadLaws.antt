@@ -6,7 +6,7 @@ use Rattle.std.proofs.lemmas.Bool.Decides.{nat_tests}
 use Rattle.kb_world.specs.Path.{Path}
 use Rattle.kb_world.specs.Tree.{Tree, node_at, is_file, file_bytes}
 use Rattle.kb_world.specs.State.{State, HasCause, RanNone}
-use Rattle.kb_world.specs.Does.{Decides, Agrees}
+use Rattle.kb_world.specs.Does.{Decides, Agrees, IsAnswer, Gives}
 use Rattle.kb_world.proofs.DoesLaws.{ran_none_then}
 use Rattle.kb_world.specs.declared.job.Key.{Key}
 use Rattle.kb_world.specs.declared.refusal.Refusal.{Refusal}
@@ -17,7 +17,7 @@ use Rattle.kb_conf.specs.declared.conf.Conf.{Conf}
 use Rattle.kb_conf.specs.Assignment.{Given}
 use Rattle.kb_conf.specs.Conf.{conf_of}
 use Rattle.kb_world.specs.Read.{IsRead}
-use Rattle.kb_conf.specs.Load.{conf_path, bytes_at, no_conf, no_source, matched, after, loaded_conf, IsAnswer, Gives, GivesFile}
+use Rattle.kb_conf.specs.Load.{conf_path, bytes_at, no_conf, no_source, matched, after, loaded_conf, GivesFile}
 
 -- where no refusal of the source is due, its conf is a file
 is_conf_file : (path : Path) (tree : Tree) → no_conf path tree ≡ None → is_file (node_at tree path) ≡ true

@@ -8,7 +8,7 @@ use Rattle.kb_world.specs.declared.job.Key.{Key}
 use Rattle.kb_world.specs.declared.refusal.Refusal.{Refusal}
 use Rattle.kb_world.specs.declared.refusal.Refusal.TheVariants as refusal
 use Rattle.kb_world.specs.declared.stop.Stop.{Stop}
-use Rattle.kb_world.specs.declared.stop.Stop.TheVariants.{Refused, Fault, NoMemory}
+use Rattle.kb_world.specs.declared.stop.Stop.TheVariants.{Refused, Fault}
 use Rattle.kb_conf.specs.declared.conf.Conf.{Conf}
 use Rattle.kb_conf.specs.Assignment.{Given}
 use Rattle.kb_conf.specs.Conf.{conf_of}
@@ -48,20 +48,6 @@ after (Some due) said = Err due
 unfoldable pub loaded_conf : Path → Option Key → Given → Tree → Result Conf Refusal
 loaded_conf dir key given tree =
     after (no_source dir (conf_path dir) tree) (matched key (conf_of (bytes_at (conf_path dir) tree) given))
-
--- The call answered the value or the refusal. A fault and want of memory tell nothing.
-abbrev pub IsAnswer : {T : Type 0} → Result T Stop → Result T Refusal → Type 0
-IsAnswer (Ok value) right = right ≡ Ok value
-IsAnswer (Err (Refused due)) right = right ≡ Err due
-IsAnswer (Err Fault) right = Unit {0}
-IsAnswer (Err NoMemory) right = Unit {0}
-
--- The call changes nothing, and answers what this says of the tree.
-pub record Gives {T : Type 0} (right : Tree → Result T Refusal) (old new : State) (result : Result T Stop) : Type 0 where
-  pub answers : ForSome old.tree (λ tree. IsAnswer result (right tree))
-  pub tree : new.tree ≡ old.tree
-  pub ran_none : RanNone old new
-  pub cause : HasCause Fault old new result
 
 -- The call changes nothing, is never refused, and gives what the file at the path holds.
 pub record GivesFile (path : Path) (old new : State) (result : Result (List ℕ) Stop) : Type 0 where

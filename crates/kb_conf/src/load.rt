@@ -3,9 +3,9 @@ ghost use Rattle.std.specs.Prelude.{◌≡◌, ◌≤◌, IfOk, IsTrue, Ok, leng
 ghost use Rattle.std.specs.Option.{ForSome, option_copied};
 ghost use Rattle.kb_conf.specs.Conf.{conf_of};
 ghost use Rattle.kb_conf.specs.Load as rule;
-ghost use Rattle.kb_conf.specs.Load.{Gives, GivesFile};
+ghost use Rattle.kb_conf.specs.Load.{GivesFile};
 ghost use Rattle.kb_world.specs.Read.{IsRead};
-ghost use Rattle.kb_world.specs.Does.{Decides};
+ghost use Rattle.kb_world.specs.Does.{Decides, Gives};
 ghost use Rattle.kb_world.specs.Tree.{node_at, is_file};
 
 use super::conf::Conf;

@@ -68,7 +68,7 @@ does_refused roots read due second old mid report Fault same d = record { answer
 does_refused roots read due second old mid report NoMemory same d = record { answers = λ tree told. tt; lasts = d.ran_none.lasts; cause = d.cause }
 
 -- what came about since a moment at which no child had run, came about since an earlier one
-answers_since : (roots : Roots) (store : Tree) (outcome : Outcome) (old mid new : State) (before after : Report) (result : Result (Unit {0}) Stop) → mid.ran ≡ old.ran
+pub answers_since : (roots : Roots) (store : Tree) (outcome : Outcome) (old mid new : State) (before after : Report) (result : Result (Unit {0}) Stop) → mid.ran ≡ old.ran
     → Answers roots store outcome result mid new before after → Answers roots store outcome result old new before after
 answers_since roots store outcome old mid new before after (Ok u) ran a = record { end = a.end; tree = a.tree; ran = a.ran ∙ ap (λ so_far. so_far ++ outcome.requests) ran; out = a.out; err = a.err }
 answers_since roots store outcome old mid new before after (Err (Refused refusal)) ran a = record { end = a.end; tree = a.tree; ran = a.ran ∙ ap (λ so_far. so_far ++ outcome.requests) ran; out = a.out; err = a.err }

@@ -1,6 +1,7 @@
 pub mod AddLaws
 pub mod DamageLaws
 pub mod DoesLaws
+pub mod LayoutLaws
 pub mod NameLaws
 pub mod PathLaws
 pub mod PathText
@@ -15,4 +16,5 @@ pub mod SpotLaws
 pub mod StepLaws
 pub mod StoreSteps
 pub mod TargetsLaws
+pub mod ThenLaws
 pub mod Told

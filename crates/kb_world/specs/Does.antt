@@ -1,10 +1,13 @@
 -- What a call above the world does, told by definitions over trees. This project's own.
-use Rattle.std.specs.Prelude.{◌≡◌, ◌++◌, Option, Some, None, Result, Ok, Err, option_map, OnOk, IsErrOf}
+use Rattle.std.specs.Prelude.{◌≡◌, [], ◌∷◌, ◌++◌, IfOk, Option, Some, None, Result, Ok, Err, option_map, OnOk, IsErrOf}
 use Rattle.std.specs.Option.{ForSome}
 use Rattle.kb_world.specs.Tree.{Tree}
 use Rattle.kb_world.specs.Public.{public_tree, foreign_tree}
 use Rattle.kb_world.specs.State.{State, HasCause, Lasts, RanNone}
 use Rattle.kb_world.specs.Outcome.{Outcome, Action, last_of}
+use Rattle.kb_world.specs.Script.{answer_in}
+use Rattle.kb_world.specs.declared.child.Reply.{Reply}
+use Rattle.kb_world.specs.declared.child.Request.{Request}
 use Rattle.kb_world.specs.declared.roots.Roots.{Roots}
 use Rattle.kb_world.specs.declared.job.Report.{Report}
 use Rattle.kb_world.specs.declared.refusal.Refusal.{Refusal}
@@ -24,6 +27,33 @@ pub record Decides (due : Tree → Option Refusal) {T : Type 0} (old new : State
   pub agrees : ForSome old.tree (λ tree. Agrees result (due tree))
   pub tree : new.tree ≡ old.tree
   pub ran_none : RanNone old new
+  pub cause : HasCause Fault old new result
+
+-- The call answered the value or the refusal. A fault and want of memory tell nothing.
+abbrev pub IsAnswer : {T : Type 0} → Result T Stop → Result T Refusal → Type 0
+IsAnswer (Ok value) right = right ≡ Ok value
+IsAnswer (Err (Refused due)) right = right ≡ Err due
+IsAnswer (Err Fault) right = Unit {0}
+IsAnswer (Err NoMemory) right = Unit {0}
+
+-- The call changes nothing, and answers what this says of the tree.
+pub record Gives {T : Type 0} (right : Tree → Result T Refusal) (old new : State) (result : Result T Stop) : Type 0 where
+  pub answers : ForSome old.tree (λ tree. IsAnswer result (right tree))
+  pub tree : new.tree ≡ old.tree
+  pub ran_none : RanNone old new
+  pub cause : HasCause Fault old new result
+
+-- a child was run, which changed nothing, and its reply is the script's
+pub record IsAsked (request : Request) (old new : State) (reply : Reply) (tree : Tree) : Type 0 where
+  pub said : reply ≡ (answer_in old.roots old.script request tree).reply
+  pub same : new.tree ≡ Some tree
+  pub ran : new.ran ≡ old.ran ++ request ∷ []
+
+-- A child that may change nothing is run. The call is never refused.
+pub record Asks (request : Request) (old new : State) (result : Result Reply Stop) : Type 0 where
+  pub asked : IfOk result (λ reply. ForSome old.tree (IsAsked request old new reply))
+  pub unrefused : (refusal : Refusal) → IsErrOf result (Refused refusal) → ⊥
+  pub lasts : Lasts old new
   pub cause : HasCause Fault old new result
 
 -- The call changes the tree so, and is never refused.

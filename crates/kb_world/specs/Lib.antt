@@ -3,6 +3,7 @@ pub mod Boxes
 pub mod Damage
 pub mod Does
 pub mod Job
+pub mod Layout
 pub mod Moves
 pub mod Names
 pub mod Outcome

@@ -1,6 +1,6 @@
 -- The store: what stands below the dkms root. The layout is after the tool dkms, and this project's own.
-use Rattle.std.specs.Prelude.{ℕ, Bool, false, ◌&&◌, cond, List, [], ◌∷◌, ◌++◌, length, drop, Option, Some, None, is_none, codes, bytes_eq, filter_map}
-use Rattle.std.specs.FinMap.{keys, retain_keys}
+use Rattle.std.specs.Prelude.{ℕ, Bool, false, ◌&&◌, cond, List, [], ◌∷◌, ◌++◌, length, drop, Option, Some, None, codes, bytes_eq, filter_map}
+use Rattle.std.specs.FinMap.{keys}
 use Rattle.kb_world.specs.Names.{is_word, is_version}
 use Rattle.kb_world.specs.Path.{Path, child, is_under, path_text}
 use Rattle.kb_world.specs.Tree.{Tree, node_at, link_text}
@@ -60,10 +60,6 @@ added_at roots store path = cond (is_under path roots.dkms) (added_if roots stor
 -- the added packages, by the order of their paths
 abbrev pub added : Roots → Tree → List Key
 added roots store = filter_map (added_at roots store) (keys store)
-
--- the rest: what stands at all other public paths
-abbrev pub rest : Roots → Tree → Tree
-rest roots store = retain_keys store (λ path. is_none (added_at roots store path))
 
 -- the same module and version
 abbrev pub same_key : Key → Key → Bool

@@ -4,6 +4,7 @@ ghost use Rattle.kb_world.specs.Path.{Path};
 ghost use Rattle.kb_world.specs.Tree.{Tree};
 ghost use Rattle.kb_world.specs.Roots.{AreApart};
 ghost use Rattle.kb_world.specs.Store.{is_key, is_added};
+ghost use Rattle.kb_world.specs.Layout.{layout};
 ghost use Rattle.kb_world.specs.Targets.{are_targets, targets_text, targets_of};
 ghost use Rattle.kb_world.specs.Boxes.{is_spot, is_built};
 ghost use Rattle.kb_world.specs.Damage.{hurt};
@@ -17,6 +18,12 @@ ghost use Rattle.kb_world.specs.declared.job.Spot.{Spot};
 pub fn targets_are_read_back()
     ensures read { (text : List ℕ) (places : List Path) → targets_of text ≡ Some places → (are_targets places ≡ true) × (targets_text places ≡ text) }
     ensures printed { (places : List Path) → are_targets places ≡ true → targets_of (targets_text places) ≡ Some places }
+{}
+
+/// The layout of a store, the union of its source links, its boxes, its kernel links, its chests and its rest, is the
+/// public tree that the store is of.
+pub fn layout_is_the_store()
+    ensures { (roots : Roots) (store : Tree) → layout roots store ≡ store }
 {}
 
 /// No step from a store without damage gives one with damage: not Add; not Build, of an added version; not Install,
