@@ -7,6 +7,7 @@ use Rattle.kb_world.specs.Roots.{is_below}
 use Rattle.kb_world.specs.Tree.{Tree, node_at, kind_of, is_dir}
 use Rattle.kb_world.specs.declared.tree.Kind.{Kind}
 use Rattle.kb_world.specs.declared.tree.Kind.TheVariants as kind
+use Rattle.kb_store.specs.declared.walking.Limits.{Limits}
 use Rattle.kb_store.specs.declared.walking.Met.{Met}
 use Rattle.kb_store.specs.declared.walking.Walk.{Walk}
 
@@ -22,34 +23,32 @@ entries tree skips directory = filter (λ path. not (skips path)) (below tree di
 abbrev pub entry_block : Tree → (Path → Bool) → Path → List ℕ → List Path
 entry_block tree skips directory name = cond (skips (child directory name)) [] (child directory name ∷ entries tree skips (child directory name))
 
--- how many entries a walk meets at most, and how deep below its start a directory may stand
-abbrev pub MOST_ENTRIES : ℕ
-MOST_ENTRIES = 65536
+-- the limits of a store's walk: how many entries it meets at most, and how deep below its start a directory may stand
+abbrev pub LIMITS : Limits
+LIMITS = record { entries = 65536; depth = 64 }
 
-abbrev pub DEEPEST : ℕ
-DEEPEST = 64
-
--- the path passes a limit: enough was met before it, or a directory stands there that is deeper than this
-abbrev pub passes_limit : Tree → ℕ → List Met → Path → Bool
-passes_limit tree deepest met path = nat_le MOST_ENTRIES (length met) || nat_lt deepest (length path) && is_dir (node_at tree path)
+-- The path passes a limit: as many entries as may be were met before it, or a directory stands there whose path has
+-- more names than this.
+abbrev pub passes_limit : Tree → ℕ → ℕ → List Met → Path → Bool
+passes_limit tree most deepest met path = nat_le most (length met) || nat_lt deepest (length path) && is_dir (node_at tree path)
 
 -- what is met at the path: it itself, unless a path before it passed a limit or it does
-abbrev pub meets : Tree → ℕ → Walk → Path → Walk
-meets tree deepest walk path = by walk.over
+abbrev pub meets : Tree → ℕ → ℕ → Walk → Path → Walk
+meets tree most deepest walk path = by walk.over
   where
     by : Option Path → Walk
     by (Some over) = walk
     by None =
-        cond (passes_limit tree deepest walk.met path) (record { met = walk.met; over = Some path })
+        cond (passes_limit tree most deepest walk.met path) (record { met = walk.met; over = Some path })
         (record { met = walk.met ++ record { path = path; kind = kind_of (node_at tree path) } ∷ []; over = None })
 
 -- the walk goes on over these paths, in order
-abbrev pub walk_on : Tree → ℕ → Walk → List Path → Walk
-walk_on tree deepest walk paths = fold (meets tree deepest) walk paths
+abbrev pub walk_on : Tree → ℕ → ℕ → Walk → List Path → Walk
+walk_on tree most deepest walk paths = fold (meets tree most deepest) walk paths
 
 -- A walk: what it meets before the first path that passes a limit, and that path.
-unfoldable pub walked : Tree → (Path → Bool) → Path → Walk
-walked tree skips start = walk_on tree (length start + DEEPEST) (record { met = []; over = None }) (entries tree skips start)
+unfoldable pub walked : Limits → Tree → (Path → Bool) → Path → Walk
+walked limits tree skips start = walk_on tree limits.entries (length start + limits.depth) (record { met = []; over = None }) (entries tree skips start)
 
 abbrev pub is_dir_kind : Kind → Bool
 is_dir_kind kind.Dir = true

@@ -5,6 +5,7 @@ mod entries;
 mod links;
 mod place;
 mod private;
+mod store;
 mod targets;
 #[cfg(test)]
 mod tests;
@@ -13,5 +14,6 @@ mod walking;
 pub use entries::{link_at, places_at};
 pub use links::spot_of_link;
 pub use place::{Places, RelPath};
+pub use store::{Build, Chest, Installation, Store};
 pub use targets::{read_targets, write_targets};
-pub use walking::{Met, Skips, Walk, walk_below};
+pub use walking::{LIMITS, Limits, Met, Skips, Walk, walk_below};

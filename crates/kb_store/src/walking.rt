@@ -9,9 +9,18 @@ ghost use Rattle.kb_store.specs.Walking.{entries, entry_block, walk_on, walked, 
 use kb_world::{Kind, Path, Sequence, Text, World, WorldError};
 use std::alloc::Global;
 
-const MOST_ENTRIES: usize = 65536;
+/// How many entries a walk meets at most, and how many names deeper than its start a directory may stand.
+#[derive(Clone, Copy, Debug)]
+pub struct Limits {
+    pub entries: usize,
+    pub depth: u64,
+}
 
-const DEEPEST: u64 = 64;
+/// The limits of a store's walk.
+pub const LIMITS: Limits = Limits {
+    entries: 65_536,
+    depth: 64,
+};
 
 /// An entry that a walk met.
 #[derive(Debug, Drop)]
@@ -41,10 +50,10 @@ pub trait Skips {
 
 impl Walk {
     // Whether an entry of this kind passes a limit, where directories may stand so much deeper.
-    fn is_passed(&self, kind: Kind, depth: u64) -> bool
-        ensures { result ≡ (nat_le MOST_ENTRIES (length self.now.met) || nat_eq depth 0 && is_dir_kind kind) }
+    fn is_passed(&self, kind: Kind, most: usize, depth: u64) -> bool
+        ensures { result ≡ (nat_le most (length self.now.met) || nat_eq depth 0 && is_dir_kind kind) }
     {
-        self.met.as_slice().len() >= MOST_ENTRIES || (depth == 0 && matches!(kind, Kind::Dir))
+        self.met.as_slice().len() >= most || (depth == 0 && matches!(kind, Kind::Dir))
     }
 }
 
@@ -54,17 +63,18 @@ fn visit<W: World, S: Skips>(
     world: &mut W,
     skips: &S,
     directory: &Path,
+    most: usize,
     depth: u64,
     walk: &mut Walk,
 ) -> Result<(), WorldError>
     requires { ForSome (W.state world.old).tree (λ tree. is_dir (node_at tree directory.now) ≡ true) }
     ensures met { OnOk result (ForSome (W.state world.old).tree (λ tree.
-        walk.new ≡ walk_on tree (length directory.now + depth) walk.old (entries tree (S.skips skips.now) directory.now))) }
+        walk.new ≡ walk_on tree most (length directory.now + depth) walk.old (entries tree (S.skips skips.now) directory.now))) }
     ensures same { Looks (W.state world.old) (W.state world.new) result }
 {
     let names = world.list(alloc, directory)?;
     for name in &names {
-        visit_entry(alloc, world, skips, directory, name, depth, walk)?;
+        visit_entry(alloc, world, skips, directory, name, most, depth, walk)?;
     }
     Ok(())
 }
@@ -76,12 +86,13 @@ fn visit_entry<W: World, S: Skips>(
     skips: &S,
     directory: &Path,
     name: &Text,
+    most: usize,
     depth: u64,
     walk: &mut Walk,
 ) -> Result<(), WorldError>
     requires { IsTrue (is_name name.now) }
     ensures met { OnOk result (ForSome (W.state world.old).tree (λ tree.
-        walk.new ≡ walk_on tree (length directory.now + depth) walk.old (entry_block tree (S.skips skips.now) directory.now name.now))) }
+        walk.new ≡ walk_on tree most (length directory.now + depth) walk.old (entry_block tree (S.skips skips.now) directory.now name.now))) }
     ensures same { Looks (W.state world.old) (W.state world.new) result }
 {
     let path = directory.child(alloc, name.as_str())?;
@@ -92,7 +103,7 @@ fn visit_entry<W: World, S: Skips>(
         return Ok(());
     }
     let kind = world.look(alloc, &path)?;
-    if walk.is_passed(kind, depth) {
+    if walk.is_passed(kind, most, depth) {
         walk.over = Some(path);
         return Ok(());
     }
@@ -101,28 +112,36 @@ fn visit_entry<W: World, S: Skips>(
         kind,
     })?;
     match kind {
-        Kind::Dir => visit(alloc, world, skips, &path, depth - 1, walk),
+        Kind::Dir => visit(alloc, world, skips, &path, most, depth - 1, walk),
         _ => Ok(()),
     }
 }
 
-/// Walks over every entry below a directory, in the order of paths, but for those that are skipped. It meets at most
-/// 65,536 entries and enters directories up to 64 below the start: the first path that is one too many, or that of a
-/// directory one too deep, ends it.
+/// Walks over every entry below a directory, in the order of paths, but for those that are skipped. It keeps the
+/// limits: the first path that is one too many, or that of a directory one too deep, ends it.
 pub fn walk_below<W: World, S: Skips>(
     alloc: Global,
     world: &mut W,
     skips: &S,
     start: &Path,
+    limits: Limits,
 ) -> Result<Walk, WorldError>
     requires { ForSome (W.state world.old).tree (λ tree. is_dir (node_at tree start.now) ≡ true) }
-    ensures met { IfOk result (λ walk. ForSome (W.state world.old).tree (λ tree. walk ≡ walked tree (S.skips skips.now) start.now)) }
+    ensures met { IfOk result (λ walk. ForSome (W.state world.old).tree (λ tree. walk ≡ walked limits tree (S.skips skips.now) start.now)) }
     ensures same { Looks (W.state world.old) (W.state world.new) result }
 {
     let mut walk = Walk {
         met: Sequence::new(alloc),
         over: None,
     };
-    visit(alloc, world, skips, start, DEEPEST, &mut walk)?;
+    visit(
+        alloc,
+        world,
+        skips,
+        start,
+        limits.entries,
+        limits.depth,
+        &mut walk,
+    )?;
     Ok(walk)
 }
