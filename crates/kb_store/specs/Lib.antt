@@ -1,4 +1,5 @@
 pub mod Contents
+pub mod Notes
 pub mod PrivateLaws
 pub mod Read
 pub mod Reading

@@ -3,6 +3,7 @@
 
 mod entries;
 mod links;
+mod notes;
 mod place;
 mod private;
 mod store;

@@ -1,0 +1,54 @@
+-- What each path below the dkms root tells of a store without damage, and which damaged paths it tells of. This
+-- project's own.
+use Rattle.std.specs.Prelude.{ℕ, cond, List, [], ◌∷◌, ◌++◌, flat_map, filter_map, Option, Some, None, fold}
+use Rattle.std.specs.Ordering.{is_lt}
+use Rattle.kb_world.specs.Path.{Path, path_cmp}
+use Rattle.kb_world.specs.Tree.{Tree}
+use Rattle.kb_world.specs.Store.{added_at}
+use Rattle.kb_world.specs.Boxes.{places_at, kernel_link_path, linked_at}
+use Rattle.kb_world.specs.Damage.{least, harm_at}
+use Rattle.kb_world.specs.declared.roots.Roots.{Roots}
+use Rattle.kb_store.specs.Contents.{below_dkms, build_by, installation_by}
+use Rattle.kb_store.specs.declared.store.Build.{Build}
+use Rattle.kb_store.specs.declared.store.Installation.{Installation}
+use Rattle.kb_store.specs.declared.notes.Notes.{Notes}
+
+-- the build whose `targets` stands at the path, wherever that is in its format
+abbrev pub told_build : Roots → Tree → Path → Option Build
+told_build roots tree = below_dkms roots (build_by (places_at roots tree))
+
+-- the installation whose link stands at the path, wherever that is a link to a build
+abbrev pub told_installation : Roots → Tree → Path → Option Installation
+told_installation roots tree = below_dkms roots (installation_by (λ word spot. linked_at roots tree (kernel_link_path roots word spot) word spot))
+
+abbrev pub list_of : {A : Type 0} → Option A → List A
+list_of None = []
+list_of (Some x) = x ∷ []
+
+-- the first of two paths, of which either may be absent
+abbrev pub first_of_two : Option Path → Option Path → Option Path
+first_of_two None later = later
+first_of_two (Some path) None = Some path
+first_of_two (Some path) (Some other) = Some (cond (is_lt (path_cmp other path)) other path)
+
+-- what is noted at a path
+abbrev pub noted : Roots → Tree → Notes → Path → Notes
+noted roots tree notes path = record {
+  added = notes.added ++ list_of (added_at roots tree path);
+  builds = notes.builds ++ list_of (told_build roots tree path);
+  installed = notes.installed ++ list_of (told_installation roots tree path);
+  hurt = first_of_two notes.hurt (least (harm_at roots tree path));
+}
+
+-- what is noted at these paths, in order
+abbrev pub noted_all : Roots → Tree → Notes → List Path → Notes
+noted_all roots tree notes paths = fold (noted roots tree) notes paths
+
+-- what the notes of these paths are
+abbrev pub notes_of : Roots → Tree → List Path → Notes
+notes_of roots tree paths = record {
+  added = filter_map (added_at roots tree) paths;
+  builds = filter_map (told_build roots tree) paths;
+  installed = filter_map (told_installation roots tree) paths;
+  hurt = least (flat_map (harm_at roots tree) paths);
+}
