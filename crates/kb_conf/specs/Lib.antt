@@ -2,6 +2,7 @@ pub mod Bytes
 pub mod Name
 pub mod Piece
 pub mod Front
+pub mod Given
 pub mod Views
 pub mod Assignment
 pub mod Table

@@ -1,0 +1,3 @@
+pub mod Add
+pub mod Host
+pub mod Scripts
