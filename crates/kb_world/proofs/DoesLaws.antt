@@ -60,12 +60,12 @@ pub does_refused : (roots : Roots) (read due : Tree → Option Refusal) (second 
     → ((tree : Tree) → read tree ≡ due (public_tree roots tree)) → Decides read {T = Unit {0}} old mid (Err stop)
     → Does roots (unless due then second) {T = Unit {0}} old mid report report (Err stop)
 does_refused roots read due second old mid report (Refused refusal) same d = record {
-  answers = λ tree told. came_refused roots due second tree old mid refusal report (sym (same tree) ∙ d.agrees tree told) (d.tree ∙ told) d.ran_none.ran;
+  answers = λ tree told rooted. came_refused roots due second tree old mid refusal report (sym (same tree) ∙ d.agrees tree told) (d.tree ∙ told) d.ran_none.ran;
   lasts = d.ran_none.lasts;
   cause = d.cause;
 }
-does_refused roots read due second old mid report Fault same d = record { answers = λ tree told. tt; lasts = d.ran_none.lasts; cause = d.cause }
-does_refused roots read due second old mid report NoMemory same d = record { answers = λ tree told. tt; lasts = d.ran_none.lasts; cause = d.cause }
+does_refused roots read due second old mid report Fault same d = record { answers = λ tree told rooted. tt; lasts = d.ran_none.lasts; cause = d.cause }
+does_refused roots read due second old mid report NoMemory same d = record { answers = λ tree told rooted. tt; lasts = d.ran_none.lasts; cause = d.cause }
 
 -- what came about since a moment at which no child had run, came about since an earlier one
 pub answers_since : (roots : Roots) (store : Tree) (outcome : Outcome) (old mid new : State) (before after : Report) (result : Result (Unit {0}) Stop) → mid.ran ≡ old.ran
@@ -80,11 +80,11 @@ pub does_passed : (roots : Roots) (read due : Tree → Option Refusal) (second :
     → ((tree : Tree) → read tree ≡ due (public_tree roots tree)) → Decides read {T = Unit {0}} old mid (Ok tt) → Does roots second mid new before after result
     → Does roots (unless due then second) old new before after result
 does_passed roots read due second old mid new before after result same d e = record {
-  answers = λ tree told.
+  answers = λ tree told rooted.
       let P : Outcome → Type 0 = λ outcome. Answers roots (public_tree roots tree) outcome result old new before after in
       let second_outcome = second (public_tree roots tree) (foreign_tree roots tree) in
       subst P (sym (unless_passed due second (public_tree roots tree) (foreign_tree roots tree) (sym (same tree) ∙ d.agrees tree told)))
-      (answers_since roots (public_tree roots tree) second_outcome old mid new before after result d.ran_none.ran (e.answers tree (d.tree ∙ told)));
+      (answers_since roots (public_tree roots tree) second_outcome old mid new before after result d.ran_none.ran (e.answers tree (d.tree ∙ told) (d.ran_none.lasts.roots ∙ rooted)));
   lasts = lasts_then old mid new d.ran_none.lasts e.lasts;
   cause = cause_then Fault old mid new (Ok tt) result d.cause e.cause;
 }
@@ -96,7 +96,7 @@ pub does_transaction : (roots : Roots) (change step : Tree → Tree) (line : Lis
     → Transforms change old new result → after.out ≡ before.out ++ line → after.err ≡ before.err
     → Does roots (transaction step line) old new before after result
 does_transaction roots change step line old new before after result steps keeps t out err = record {
-  answers = λ tree told. by_result result t tree told;
+  answers = λ tree told rooted. by_result result t tree told;
   lasts = t.ran_none.lasts;
   cause = t.cause;
 }

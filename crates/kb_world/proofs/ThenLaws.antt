@@ -70,16 +70,15 @@ pub does_then : (roots : Roots) (first second : Action) (old mid new : State) (b
     → Does roots first {T = Unit {0}} old mid before between (Ok tt) → Does roots second mid new between after result
     → Does roots (first then second) old new before after result
 does_then roots first second old mid new before between after result a b = record {
-  answers = λ tree told.
+  answers = λ tree told rooted.
       let store = public_tree roots tree in
       let outcome = first store (foreign_tree roots tree) in
-      let came : CameAbout roots store outcome None old mid before between = a.answers tree told in
-      let later : Action = second in
+      let came : CameAbout roots store outcome None old mid before between = a.answers tree told rooted in
       let follows = second (last_of store outcome.after) outcome.foreign in
       let P : Tree → Tree → Type 0 = λ s f. Answers roots s (second s f) result mid new between after in
       let goes : P (last_of store outcome.after) outcome.foreign =
       subst (λ (f : Tree). P (last_of store outcome.after) f) came.tree.2.foreign_part
-      (subst (λ (s : Tree). P s (foreign_tree roots came.tree.0)) came.tree.2.public_part (b.answers came.tree.0 came.tree.1)) in
+      (subst (λ (s : Tree). P s (foreign_tree roots came.tree.0)) came.tree.2.public_part (b.answers came.tree.0 came.tree.1 (a.lasts.roots ∙ rooted))) in
       let Q : Outcome → Type 0 = λ whole. Answers roots store whole result old new before after in
       subst Q (sym (goes_on store outcome second came.end)) (answers_then roots store outcome follows result old mid new before between after came goes);
   lasts = lasts_then old mid new a.lasts b.lasts;
@@ -114,27 +113,27 @@ pub does_unread : {A : Type 0} (roots : Roots) (read right : Tree → Result A R
     → ((tree : Tree) → read tree ≡ right (public_tree roots tree)) → Gives {T = A} read old mid (Err stop)
     → Does roots (reads right next) {T = Unit {0}} old mid report report (Err stop)
 does_unread {A = A} roots read right next old mid report (Refused refusal) same g = record {
-  answers = λ tree told.
+  answers = λ tree told rooted.
       let store = public_tree roots tree in
       let P : Result A Refusal → Type 0 = λ r. CameAbout roots store (by_answer next r store (foreign_tree roots tree)) (Some refusal) old mid report report in
       subst P (sym (sym (same tree) ∙ g.answers tree told)) (stays_refused roots tree old mid refusal report (g.tree ∙ told) g.ran_none.ran);
   lasts = g.ran_none.lasts;
   cause = record { later = g.cause.later; rose = λ failed. absurd (not_a_fault refusal failed); steady = g.cause.steady; never = λ is failed. not_a_fault refusal failed };
 }
-does_unread roots read right next old mid report Fault same g = record { answers = λ tree told. tt; lasts = g.ran_none.lasts; cause = record { later = g.cause.later; rose = λ failed. g.cause.rose refl; steady = g.cause.steady; never = λ is failed. g.cause.never is refl } }
-does_unread roots read right next old mid report NoMemory same g = record { answers = λ tree told. tt; lasts = g.ran_none.lasts; cause = record { later = g.cause.later; rose = λ failed. absurd (no_memory_no_fault failed); steady = g.cause.steady; never = λ is failed. no_memory_no_fault failed } }
+does_unread roots read right next old mid report Fault same g = record { answers = λ tree told rooted. tt; lasts = g.ran_none.lasts; cause = record { later = g.cause.later; rose = λ failed. g.cause.rose refl; steady = g.cause.steady; never = λ is failed. g.cause.never is refl } }
+does_unread roots read right next old mid report NoMemory same g = record { answers = λ tree told rooted. tt; lasts = g.ran_none.lasts; cause = record { later = g.cause.later; rose = λ failed. absurd (no_memory_no_fault failed); steady = g.cause.steady; never = λ is failed. no_memory_no_fault failed } }
 
 -- it read a value, and it goes on with that
 pub does_read : {A : Type 0} (roots : Roots) (read right : Tree → Result A Refusal) (next : A → Action) (value : A) (old mid new : State) (before after : Report) (result : Result (Unit {0}) Stop)
     → ((tree : Tree) → read tree ≡ right (public_tree roots tree)) → Gives {T = A} read old mid (Ok value) → Does roots (next value) mid new before after result
     → Does roots (reads right next) old new before after result
 does_read {A = A} roots read right next value old mid new before after result same g b = record {
-  answers = λ tree told.
+  answers = λ tree told rooted.
       let store = public_tree roots tree in
       let foreign = foreign_tree roots tree in
       let P : Result A Refusal → Type 0 = λ r. Answers roots store (by_answer next r store foreign) result old new before after in
       subst P (sym (sym (same tree) ∙ g.answers tree told))
-      (answers_since roots store (next value store foreign) old mid new before after result g.ran_none.ran (b.answers tree (g.tree ∙ told)));
+      (answers_since roots store (next value store foreign) old mid new before after result g.ran_none.ran (b.answers tree (g.tree ∙ told) (g.ran_none.lasts.roots ∙ rooted)));
   lasts = lasts_then old mid new g.ran_none.lasts b.lasts;
   cause = cause_then Fault old mid new (Ok value) result g.cause b.cause;
 }
@@ -144,7 +143,7 @@ does_read {A = A} roots read right next value old mid new before after result sa
 pub does_warn : (roots : Roots) (text : List ℕ) (old : State) (before after : Report) → after.out ≡ before.out → after.err ≡ before.err ++ text
     → Does roots (warn text) {T = Unit {0}} old old before after (Ok tt)
 does_warn roots text old before after out err = record {
-  answers = λ tree told. record {
+  answers = λ tree told rooted. record {
     end = refl;
     tree = (tree, told, record { public_part = refl; foreign_part = refl });
     ran = sym (append-nil old.ran);
@@ -158,11 +157,11 @@ does_warn roots text old before after out err = record {
 -- ---- a child that may change nothing
 
 pub does_asks : (roots : Roots) (request : Request) (next : Reply → Action) (reply : Reply) (old mid new : State) (before after : Report) (result : Result (Unit {0}) Stop)
-    → ((q : Path) → is_own request.area q ≡ false) → ((tree : Tree) → old.tree ≡ Some tree → old.roots ≡ roots)
+    → ((q : Path) → is_own request.area q ≡ false)
     → Asks request old mid (Ok reply) → Does roots (next reply) mid new before after result
     → Does roots (asks roots old.script request next) old new before after result
-does_asks roots request next reply old mid new before after result none rooted a b = record {
-  answers = λ tree told.
+does_asks roots request next reply old mid new before after result none a b = record {
+  answers = λ tree told rooted.
       let store = public_tree roots tree in
       let foreign = foreign_tree roots tree in
       let is : IsAsked request old mid reply tree = a.asked tree told in
@@ -175,10 +174,10 @@ does_asks roots request next reply old mid new before after result none rooted a
         err = sym (append-nil before.err);
       } in
       let said : reply ≡ (answer_in roots old.script request (united store foreign)).reply =
-      is.said ∙ ap (λ r. (answer_in r old.script request tree).reply) (rooted tree told)
+      is.said ∙ ap (λ r. (answer_in r old.script request tree).reply) rooted
       ∙ ap (λ view. (answer old.script request view).reply) (sym (view-whole roots request tree none)) in
       let P : Reply → Type 0 = λ r. Answers roots store (joined first (next r store foreign)) result old new before after in
-      subst P said (answers_then roots store first (next reply store foreign) result old mid new before before after came (b.answers tree is.same));
+      subst P said (answers_then roots store first (next reply store foreign) result old mid new before before after came (b.answers tree is.same (a.lasts.roots ∙ rooted)));
   lasts = lasts_then old mid new a.lasts b.lasts;
   cause = cause_then Fault old mid new (Ok reply) result a.cause b.cause;
 }
@@ -188,7 +187,7 @@ does_asks roots request next reply old mid new before after result none rooted a
 pub does_nothing_told : (roots : Roots) (action : Action) (old new : State) (before after : Report) → Lasts old new → old.faults ≤ new.faults → (IsTrue old.steady → IsTrue new.steady)
     → Does roots action {T = Unit {0}} old new before after (Err NoMemory)
 does_nothing_told roots action old new before after lasts later steady = record {
-  answers = λ tree told. tt;
+  answers = λ tree told rooted. tt;
   lasts = lasts;
   cause = record { later = later; rose = λ failed. absurd (no_memory_no_fault failed); steady = steady; never = λ is failed. no_memory_no_fault failed };
 }

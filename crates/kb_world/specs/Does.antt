@@ -83,8 +83,8 @@ Answers roots store outcome (Err (Refused refusal)) old new before after = CameA
 Answers roots store outcome (Err Fault) old new before after = Unit {0}
 Answers roots store outcome (Err NoMemory) old new before after = Unit {0}
 
--- The one clause of an action: over a told tree the call does it.
+-- The one clause of an action: over a told tree of a world with these roots the call does it.
 pub record Does (roots : Roots) (action : Action) {T : Type 0} (old new : State) (before after : Report) (result : Result T Stop) : Type 0 where
-  pub answers : ForSome old.tree (λ tree. let store = public_tree roots tree in Answers roots store (action store (foreign_tree roots tree)) result old new before after)
+  pub answers : ForSome old.tree (λ tree. old.roots ≡ roots → let store = public_tree roots tree in Answers roots store (action store (foreign_tree roots tree)) result old new before after)
   pub lasts : Lasts old new
   pub cause : HasCause Fault old new result
