@@ -26,7 +26,6 @@ pub fn add<W: World>(
     requires named { IsTrue (is_key key.now) }
     requires known { IsTrue (keeps_rules job.now.host) }
     requires apart { AreApart job.now.host.roots }
-    requires rooted { ForSome (W.state world.old).tree (λ tree. (W.state world.old).roots ≡ job.now.host.roots) }
     requires root { ForSome (W.state world.old).tree (λ tree. is_dir (node_at tree job.now.host.roots.dkms) ≡ true) }
     requires sound { ForSome (W.state world.old).tree (λ tree. hurt job.now.host.roots (public_tree job.now.host.roots tree) ≡ None) }
     ensures { Does job.now.host.roots (action.add job.now.host (W.state world.old).script key.now) (W.state world.old) (W.state world.new) report.old report.new result }
