@@ -1,4 +1,5 @@
 pub mod LinkLaws
+pub mod NoteLaws
 pub mod OrderLaws
 pub mod PlaceLaws
 pub mod TargetsLaws
