@@ -1,4 +1,5 @@
 pub mod LinkLaws
+pub mod MemberLaws
 pub mod NoteLaws
 pub mod OrderLaws
 pub mod PlaceLaws

@@ -121,8 +121,11 @@ harm_by_entries roots apart f silent tree =
 -- ---- each of what is told
 
 -- a word that begins names which aren't scratch may tell something
+pub word_tells : (word : List ℕ) (rest : Path) → is_word word ≡ true → is_scratch (word ∷ rest) ≡ false → may_tell (word ∷ rest) ≡ true
+word_tells word rest named plain = both_true (known word named).begins (ap not plain)
+
 told_word : (word : List ℕ) (rest : Path) → is_word word ≡ true → is_scratch (word ∷ rest) ≡ false → may_tell (word ∷ rest) ≡ false → ⊥
-told_word word rest named plain h = untrue (sym h ∙ both_true (known word named).begins (ap not plain))
+told_word word rest named plain h = untrue (sym h ∙ word_tells word rest named plain)
 
 shut : {A : Type 0} (test : Bool) (x nothing : A) → (test ≡ true → ⊥) → cond test x nothing ≡ nothing
 shut true x nothing never = absurd (never refl)
@@ -136,14 +139,14 @@ and_false true b h = h
 and_false false b h = refl
 
 -- a kernel below a version isn't scratch
-kernel_plain : (word version kernel : List ℕ) (rest : Path) → is_kernel kernel ≡ true → is_scratch (word ∷ version ∷ kernel ∷ rest) ≡ false
+pub kernel_plain : (word version kernel : List ℕ) (rest : Path) → is_kernel kernel ≡ true → is_scratch (word ∷ version ∷ kernel ∷ rest) ≡ false
 kernel_plain word version kernel rest h = and_false (is_word word && is_version version) (bytes_eq kernel (codes "build")) (no_kernel kernel h)
 
-source_plain : (word version name : List ℕ) (rest : Path) → bytes_eq name (codes "source") ≡ true → is_scratch (word ∷ version ∷ name ∷ rest) ≡ false
+pub source_plain : (word version name : List ℕ) (rest : Path) → bytes_eq name (codes "source") ≡ true → is_scratch (word ∷ version ∷ name ∷ rest) ≡ false
 source_plain word version name rest h = and_false (is_word word && is_version version) (bytes_eq name (codes "build")) (ap (λ n. bytes_eq n (codes "build")) ((bytes_decides name (codes "source")).0 h))
 
 -- nor are kept files
-chest_plain : (word name : List ℕ) (rest : Path) → bytes_eq name (codes "original_module") ≡ true → is_scratch (word ∷ name ∷ rest) ≡ false
+pub chest_plain : (word name : List ℕ) (rest : Path) → bytes_eq name (codes "original_module") ≡ true → is_scratch (word ∷ name ∷ rest) ≡ false
 chest_plain word name [] h = refl
 chest_plain word name (kernel ∷ rest) h = ap (λ b. b && bytes_eq kernel (codes "build")) (and_false (is_word word) (is_version name) (ap is_version ((bytes_decides name (codes "original_module")).0 h)))
 
