@@ -3,6 +3,7 @@ pub mod MemberLaws
 pub mod NoteLaws
 pub mod OrderLaws
 pub mod PlaceLaws
+pub mod PublicNotes
 pub mod TargetsLaws
 pub mod VisitLaws
 pub mod WalkLaws

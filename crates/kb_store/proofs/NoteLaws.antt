@@ -1,8 +1,9 @@
 -- What each path tells of a store: only paths below the dkms root that aren't private tell anything, and where nothing
 -- is damaged, what is told is what is there.
 use Rattle.std.proofs.Common.{◌≡◌, ℕ, Bool, true, false, cond, ◌&&◌, not, List, [], ◌∷◌, ◌++◌, length, drop, Option, Some, None, codes, refl, sym, ap, ◌∙◌, append-nil}
-use Rattle.std.specs.Prelude.{bytes_eq, filter, filter_map, flat_map}
+use Rattle.std.specs.Prelude.{bytes_eq, filter, filter_map, flat_map, option_and_then}
 use Rattle.std.specs.List.{cons_option}
+use Rattle.std.specs.Option.{option_map}
 use Rattle.std.specs.FinMap.{keys}
 use Rattle.std.specs.Cmp.{first_so, second_so}
 use Rattle.std.specs.Cmp.Derive.{both_true}
@@ -21,8 +22,9 @@ use Rattle.kb_world.specs.declared.job.Spot.{Spot}
 use Rattle.kb_world.proofs.PathLaws.{under-append, drop-front}
 use Rattle.kb_world.proofs.DamageLaws.{under-split, spot_of}
 use Rattle.kb_world.proofs.NameLaws.{known}
+use Rattle.kb_world.proofs.SpotLaws.{link_spotted}
 use Rattle.kb_world.proofs.PublicLaws.{in_dkms}
-use Rattle.kb_store.specs.Contents.{build_by, build_at, installation_by, installation_at, chest_by, chest_at, chest_files}
+use Rattle.kb_store.specs.Contents.{build_of, build_by, build_at, installation_of, installation_by, installation_at, chest_by, chest_at, chest_files}
 use Rattle.kb_store.specs.Notes.{told_build, told_installation}
 use Rattle.kb_store.specs.Walking.{below, entries}
 use Rattle.kb_store.specs.declared.store.Build.{Build}
@@ -215,6 +217,52 @@ no_harm roots tree (word ∷ version ∷ kernel ∷ arch ∷ name ∷ []) h =
     (kernel_plain word version kernel (arch ∷ name ∷ []) (first_so (is_kernel kernel) _ (second_so (is_key key) (is_spot spot) front))) h)
 no_harm roots tree (word ∷ version ∷ kernel ∷ arch ∷ name ∷ more ∷ rest) h = refl
 
+-- ---- what is asked alike where names keep their rules, is told alike
+
+pub open_same : {A : Type 0} (test : Bool) (x y nothing : A) → (test ≡ true → x ≡ y) → cond test x nothing ≡ cond test y nothing
+open_same true x y nothing same = same refl
+open_same false x y nothing same = refl
+
+pub then_same : {A B : Type 0} (f g : A → Option B) (told : Option A) → ((x : A) → told ≡ Some x → f x ≡ g x) → option_and_then f told ≡ option_and_then g told
+then_same f g None same = refl
+then_same f g (Some x) same = same x refl
+
+pub build_same : (p q : Key → Spot → Option (List Path)) → ((key : Key) (spot : Spot) → is_key key ≡ true → is_spot spot ≡ true → p key spot ≡ q key spot) → (names : Path) → build_by p names ≡ build_by q names
+build_same p q same [] = refl
+build_same p q same (word ∷ []) = refl
+build_same p q same (word ∷ version ∷ []) = refl
+build_same p q same (word ∷ version ∷ kernel ∷ []) = refl
+build_same p q same (word ∷ version ∷ kernel ∷ arch ∷ []) = refl
+build_same p q same (word ∷ version ∷ kernel ∷ arch ∷ name ∷ []) =
+    let key = key_of word version in
+    let spot = spot_of kernel arch in
+    open_same (is_key key && is_spot spot && bytes_eq name (codes "targets")) _ _ None (λ e.
+    let front = first_so (is_key key && is_spot spot) (bytes_eq name (codes "targets")) e in
+    ap (option_map (build_of key spot)) (same key spot (first_so (is_key key) (is_spot spot) front) (second_so (is_key key) (is_spot spot) front)))
+build_same p q same (word ∷ version ∷ kernel ∷ arch ∷ name ∷ more ∷ rest) = refl
+
+pub installation_same : (f g : List ℕ → Spot → Option (List ℕ)) → ((word : List ℕ) (spot : Spot) → is_word word ≡ true → is_spot spot ≡ true → f word spot ≡ g word spot) → (names : Path) → installation_by f names ≡ installation_by g names
+installation_same f g same [] = refl
+installation_same f g same (word ∷ []) = refl
+installation_same f g same (word ∷ name ∷ []) = open_same (is_word word) _ _ None (λ named.
+    then_same (λ spot. option_map (installation_of word spot) (f word spot)) (λ spot. option_map (installation_of word spot) (g word spot)) (spot_of_link name)
+    (λ spot e. ap (option_map (installation_of word spot)) (same word spot named (link_spotted name spot e))))
+installation_same f g same (word ∷ name ∷ more ∷ rest) = refl
+
+pub chest_same : (f g : List ℕ → Spot → Option (List Path)) → ((word : List ℕ) (spot : Spot) → is_word word ≡ true → is_spot spot ≡ true → f word spot ≡ g word spot) → (names : Path) → chest_by f names ≡ chest_by g names
+chest_same f g same [] = refl
+chest_same f g same (word ∷ []) = refl
+chest_same f g same (word ∷ name ∷ []) = refl
+chest_same f g same (word ∷ name ∷ kernel ∷ []) = refl
+chest_same f g same (word ∷ name ∷ kernel ∷ arch ∷ []) =
+    let spot = spot_of kernel arch in
+    open_same (is_word word && bytes_eq name (codes "original_module") && is_spot spot) _ _ None (λ e.
+    let named = first_so (is_word word) (bytes_eq name (codes "original_module")) (first_so (is_word word && bytes_eq name (codes "original_module")) (is_spot spot) e) in
+    ap (option_map (λ paths. record { «module» = word; spot = spot; files = paths })) (same word spot named (second_so (is_word word && bytes_eq name (codes "original_module")) (is_spot spot) e)))
+chest_same f g same (word ∷ name ∷ kernel ∷ arch ∷ more ∷ rest) = refl
+
+-- ---- over any tree only its entries tell something
+
 -- what is asked by the names below the dkms root
 below_silent : {A : Type 0} (roots : Roots) (by : Path → A) (nothing : A) → ((names : Path) → may_tell names ≡ false → by names ≡ nothing) → IsSilent roots (λ path. cond (is_under path roots.dkms) (by (drop (length roots.dkms) path)) nothing) nothing
 below_silent roots by nothing none = record {
@@ -241,8 +289,6 @@ chest_silent roots tree = below_silent roots (chest_by (chest_files roots tree))
 
 pub harm_silent : (roots : Roots) (tree : Tree) → IsSilent roots (harm_at roots tree) []
 harm_silent roots tree = below_silent roots (harm_below roots tree) [] (no_harm roots tree)
-
--- ---- over any tree only its entries tell something
 
 pub added_told : (roots : Roots) → AreApart roots → (tree : Tree) → filter_map (added_at roots tree) (keys tree) ≡ filter_map (added_at roots tree) (dkms_entries roots tree)
 added_told roots apart tree = told_by_entries roots apart (added_at roots tree) (added_silent roots tree) tree
