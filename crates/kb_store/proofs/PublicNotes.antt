@@ -79,11 +79,34 @@ fails_same f g name (x ∷ xs) same =
     let here = same x in
     λ i. cond (not (here i)) (name x ∷ later i) (later i)
 
+-- the same of a test that all others stand behind
+first_guarded : (a x y u v : Bool) → (a ≡ true → x ≡ y) → (a ≡ true → u ≡ v) → ((a && x) && u) ≡ ((a && y) && v)
+first_guarded true x y u v same and_same = let e = same refl in let f = and_same refl in λ i. e i && f i
+first_guarded false x y u v same and_same = refl
+
+no_package : (key : Key) → None ≡ Some key → ⊥
+no_package key h = cc
+
+-- a package is one whose names keep their rules
+package_key : (names : Path) (key : Key) → package_of names ≡ Some key → is_key key ≡ true
+package_key [] key h = absurd (no_package key h)
+package_key (word ∷ []) key h = absurd (no_package key h)
+package_key (word ∷ version ∷ []) key h = absurd (no_package key h)
+package_key (word ∷ version ∷ name ∷ []) key h = by (is_word word && is_version version && bytes_eq name (codes "source")) refl
+  where
+    by : (b : Bool) → (is_word word && is_version version && bytes_eq name (codes "source")) ≡ b → is_key key ≡ true
+    by true e =
+        let some : Some (key_of word version) ≡ Some key = sym (ap (λ b. cond b (Some (key_of word version)) None) e) ∙ h in
+        let is : key_of word version ≡ key = cc in
+        ap is_key (sym is) ∙ first_so (is_word word && is_version version) (bytes_eq name (codes "source")) e
+    by false e = absurd (no_package key (sym (ap (λ b. cond b (Some (key_of word version)) None) e) ∙ h))
+package_key (word ∷ version ∷ name ∷ more ∷ rest) key h = absurd (no_package key h)
+
 module _ (roots : Roots) (apart : AreApart roots) (tree : Tree) where
-  shown_below : (path : Path) → is_private roots path ≡ false → is_below path roots.dkms ≡ true → node_at (public_tree roots tree) path ≡ node_at tree path
+  pub shown_below : (path : Path) → is_private roots path ≡ false → is_below path roots.dkms ≡ true → node_at (public_tree roots tree) path ≡ node_at tree path
   shown_below path plain h = shown roots tree path (open_below roots apart path plain h)
 
-  entries_public : dkms_entries roots (public_tree roots tree) ≡ dkms_entries roots tree
+  pub entries_public : dkms_entries roots (public_tree roots tree) ≡ dkms_entries roots tree
   entries_public = same_members (dkms_entries roots (public_tree roots tree)) (dkms_entries roots tree) (risen (public_tree roots tree)) (risen tree) (λ path.
       members (public_tree roots tree) path
       ∙ guarded (not (is_private roots path)) (is_below path roots.dkms) _ _ (λ plain h. ap is_some (shown_below path (not_true (is_private roots path) plain) h))
@@ -97,14 +120,14 @@ module _ (roots : Roots) (apart : AreApart roots) (tree : Tree) where
           in_filter (λ q. not (is_private roots q)) (below t roots.dkms) path
           ∙ ap (λ b. not (is_private roots path) && b) (in_filter (λ q. is_below q roots.dkms) (keys t) path ∙ ap (λ b. is_below path roots.dkms && b) (sym (standing t path)))
 
-  entry_shown : (path : Path) → is_in path (dkms_entries roots tree) → node_at (public_tree roots tree) path ≡ node_at tree path
+  pub entry_shown : (path : Path) → is_in path (dkms_entries roots tree) → node_at (public_tree roots tree) path ≡ node_at tree path
   entry_shown path h =
       let all = sym (in_filter (λ q. not (is_private roots q)) (below tree roots.dkms) path) ∙ h in
       let plain = first_so (not (is_private roots path)) _ all in
       let under = sym (in_filter (λ q. is_below q roots.dkms) (keys tree) path) ∙ second_so (not (is_private roots path)) _ all in
       shown_below path (not_true (is_private roots path) plain) (first_so (is_below path roots.dkms) _ under)
 
-  walked_public : (limits : Limits) → walked limits (public_tree roots tree) (is_private roots) roots.dkms ≡ walked limits tree (is_private roots) roots.dkms
+  pub walked_public : (limits : Limits) → walked limits (public_tree roots tree) (is_private roots) roots.dkms ≡ walked limits tree (is_private roots) roots.dkms
   unfolding walked
   walked_public limits =
       let start : Walk = record { met = []; over = None } in
@@ -172,3 +195,142 @@ module _ (roots : Roots) (apart : AreApart roots) (tree : Tree) where
       (linked_at roots tree path word spot)
       (λ version e. ap (λ told. cond (is_some told) (Some version) None)
       (boxed_same (key_of word version) spot (both_true named (told-version spot (link_text (node_at tree path)) version (linked_version (λ v. is_built roots tree (key_of word v) spot) said version e))) spotted))
+
+  -- ---- kept files
+
+  chest_shown : (word : List ℕ) (spot : Spot) → is_word word ≡ true → (rest : Path) → node_at (public_tree roots tree) (chest_path roots word spot ++ rest) ≡ node_at tree (chest_path roots word spot ++ rest)
+  chest_shown word spot named rest =
+      let names : Path = word ∷ codes "original_module" ∷ spot.kernel ∷ spot.arch ∷ rest in
+      let is : chest_path roots word spot ++ rest ≡ roots.dkms ++ names = append_assoc roots.dkms (word ∷ codes "original_module" ∷ spot.kernel ∷ spot.arch ∷ []) rest in
+      ap (node_at (public_tree roots tree)) is
+      ∙ names_shown names (word_tells word (codes "original_module" ∷ spot.kernel ∷ spot.arch ∷ rest) named (chest_plain word (codes "original_module") (spot.kernel ∷ spot.arch ∷ rest) refl))
+      ∙ sym (ap (node_at tree) is)
+
+  below_chest : (word : List ℕ) (spot : Spot) → is_word word ≡ true → (path : Path) → is_below path (chest_path roots word spot) ≡ true → node_at (public_tree roots tree) path ≡ node_at tree path
+  below_chest word spot named path h =
+      let chest = chest_path roots word spot in
+      let split = under-split path chest (first_so (is_under path chest) (not (is_under chest path)) h) in
+      ap (node_at (public_tree roots tree)) split ∙ chest_shown word spot named (drop (length chest) path) ∙ sym (ap (node_at tree) split)
+
+  kept_same : (word : List ℕ) (spot : Spot) → is_word word ≡ true → kept_files roots (public_tree roots tree) word spot ≡ kept_files roots tree word spot
+  kept_same word spot named =
+      ap (map (λ path. (drop (length chest) path, unwrap_or (node_at (public_tree roots tree) path) node.Dir))) same_paths
+      ∙ map_same (λ path. (drop (length chest) path, unwrap_or (node_at (public_tree roots tree) path) node.Dir)) (λ path. (drop (length chest) path, unwrap_or (node_at tree path) node.Dir)) (files tree)
+      (λ path h.
+      let here = sym (in_filter (λ q. is_below q chest && is_file (node_at tree q)) (keys tree) path) ∙ h in
+      let stands = below_chest word spot named path (first_so (is_below path chest) (is_file (node_at tree path)) (first_so (is_below path chest && is_file (node_at tree path)) _ here)) in
+      λ i. (drop (length chest) path, unwrap_or (stands i) node.Dir))
+    where
+      chest : Path
+      chest = chest_path roots word spot
+
+      files : Tree → List Path
+      files t = filter (λ q. is_below q chest && is_file (node_at t q)) (keys t)
+
+      members : (t : Tree) (path : Path) → list_any (same_path path) (files t) ≡ ((is_below path chest && is_file (node_at t path)) && is_some (node_at t path))
+      members t path = in_filter (λ q. is_below q chest && is_file (node_at t q)) (keys t) path ∙ ap (λ b. (is_below path chest && is_file (node_at t path)) && b) (sym (standing t path))
+
+      same_paths : files (public_tree roots tree) ≡ files tree
+      same_paths = same_members (files (public_tree roots tree)) (files tree) (rises_filter (λ q. is_below q chest && is_file (node_at (public_tree roots tree) q)) (keys (public_tree roots tree)) (rises_keys (public_tree roots tree)))
+          (rises_filter (λ q. is_below q chest && is_file (node_at tree q)) (keys tree) (rises_keys tree)) (λ path.
+          members (public_tree roots tree) path
+          ∙ first_guarded (is_below path chest) _ _ _ _ (λ h. ap is_file (below_chest word spot named path h)) (λ h. ap is_some (below_chest word spot named path h))
+          ∙ sym (members tree path))
+
+  chest_files_same : (word : List ℕ) (spot : Spot) → is_word word ≡ true → is_spot spot ≡ true → chest_files roots (public_tree roots tree) word spot ≡ chest_files roots tree word spot
+  chest_files_same word spot named spotted =
+      let chest = chest_path roots word spot in
+      let stands : node_at (public_tree roots tree) chest ≡ node_at tree chest =
+      names_shown (word ∷ codes "original_module" ∷ spot.kernel ∷ spot.arch ∷ []) (word_tells word (codes "original_module" ∷ spot.kernel ∷ spot.arch ∷ []) named (chest_plain word (codes "original_module") (spot.kernel ∷ spot.arch ∷ []) refl)) in
+      let kept = kept_same word spot named in
+      λ i. cond (is_dir (stands i)) (Some (map (λ item. item.0) (kept i))) None
+
+  -- ---- damage
+
+  files_harm_same : (key : Key) (spot : Spot) → is_key key ≡ true → is_spot spot ≡ true → (told : Option (List Path)) → files_harm roots (public_tree roots tree) key spot told ≡ files_harm roots tree key spot told
+  files_harm_same key spot named spotted None = refl
+  files_harm_same key spot named spotted (Some places) =
+      fails_same (λ file. is_file (node_at (public_tree roots tree) file)) (λ file. is_file (node_at tree file)) (module_file roots key spot) places (file_same key spot named spotted)
+
+  box_harm_same : (key : Key) (spot : Spot) → is_key key ≡ true → is_spot spot ≡ true → box_harm roots (public_tree roots tree) key spot ≡ box_harm roots tree key spot
+  box_harm_same key spot named spotted =
+      let stands = link_shown key named in
+      let told = ap (files_harm roots (public_tree roots tree) key spot) (places_same key spot named spotted) ∙ files_harm_same key spot named spotted (places_at roots tree key spot) in
+      λ i. unless_sound (is_some (stands i)) (link_path roots key) ++ told i
+
+  link_harm_same : (word name : List ℕ) → is_word word ≡ true → (told : Option Spot) → spot_of_link name ≡ told
+      → link_harm roots (public_tree roots tree) (roots.dkms ++ word ∷ name ∷ []) word told ≡ link_harm roots tree (roots.dkms ++ word ∷ name ∷ []) word told
+  link_harm_same word name named None e = refl
+  link_harm_same word name named (Some spot) e = ap (λ o. unless_sound (is_some o) (roots.dkms ++ word ∷ name ∷ [])) (linked_same word name spot named (link_spotted name spot e))
+
+  harm_below_same : (names : Path) → harm_below roots (public_tree roots tree) names ≡ harm_below roots tree names
+  harm_below_same [] = refl
+  harm_below_same (word ∷ []) = refl
+  harm_below_same (word ∷ name ∷ []) = open_same (is_word word) _ _ [] (λ named. link_harm_same word name named (spot_of_link name) refl)
+  harm_below_same (word ∷ version ∷ name ∷ []) = open_same (is_key (key_of word version) && bytes_eq name (codes "source")) _ _ [] (λ e.
+      ap (λ b. unless_sound b (link_path roots (key_of word version))) (added_same (key_of word version) (first_so (is_key (key_of word version)) (bytes_eq name (codes "source")) e)))
+  harm_below_same (word ∷ version ∷ kernel ∷ arch ∷ []) = refl
+  harm_below_same (word ∷ version ∷ kernel ∷ arch ∷ name ∷ []) =
+      let key = key_of word version in
+      let spot = spot_of kernel arch in
+      open_same (is_key key && is_spot spot && bytes_eq name (codes "targets")) _ _ [] (λ e.
+      let front = first_so (is_key key && is_spot spot) (bytes_eq name (codes "targets")) e in
+      box_harm_same key spot (first_so (is_key key) (is_spot spot) front) (second_so (is_key key) (is_spot spot) front))
+  harm_below_same (word ∷ version ∷ kernel ∷ arch ∷ name ∷ more ∷ rest) = refl
+
+  -- ---- what each path tells
+
+  pub added_public : (path : Path) → added_at roots (public_tree roots tree) path ≡ added_at roots tree path
+  added_public path = by (package_of (drop (length roots.dkms) path)) refl
+    where
+      by : (told : Option Key) → package_of (drop (length roots.dkms) path) ≡ told → added_at roots (public_tree roots tree) path ≡ added_at roots tree path
+      by None e = rw e refl
+      by (Some key) e = let same = added_same key (package_key (drop (length roots.dkms) path) key e) in rw (e, same) refl
+
+  pub build_public : (path : Path) → build_at roots (public_tree roots tree) path ≡ build_at roots tree path
+  build_public path = ap (λ o. cond (is_under path roots.dkms) o None) (build_same (boxed roots (public_tree roots tree)) (boxed roots tree) boxed_same (drop (length roots.dkms) path))
+
+  pub told_build_public : (path : Path) → told_build roots (public_tree roots tree) path ≡ told_build roots tree path
+  told_build_public path = ap (λ o. cond (is_under path roots.dkms) o None) (build_same (places_at roots (public_tree roots tree)) (places_at roots tree) places_same (drop (length roots.dkms) path))
+
+  pub installation_public : (path : Path) → installation_at roots (public_tree roots tree) path ≡ installation_at roots tree path
+  installation_public path = ap (λ o. cond (is_under path roots.dkms) o None) (installation_same (installed roots (public_tree roots tree)) (installed roots tree) installed_same (drop (length roots.dkms) path))
+
+  pub told_installation_public : (path : Path) → told_installation roots (public_tree roots tree) path ≡ told_installation roots tree path
+  told_installation_public path =
+      ap (λ o. cond (is_under path roots.dkms) o None)
+      (installation_same (λ word spot. linked_at roots (public_tree roots tree) (kernel_link_path roots word spot) word spot) (λ word spot. linked_at roots tree (kernel_link_path roots word spot) word spot)
+      (λ word spot named spotted. linked_same word (kernel_link_name spot) spot named spotted) (drop (length roots.dkms) path))
+
+  pub chest_public : (path : Path) → chest_at roots (public_tree roots tree) path ≡ chest_at roots tree path
+  chest_public path = ap (λ o. cond (is_under path roots.dkms) o None) (chest_same (chest_files roots (public_tree roots tree)) (chest_files roots tree) chest_files_same (drop (length roots.dkms) path))
+
+  pub harm_public : (path : Path) → harm_at roots (public_tree roots tree) path ≡ harm_at roots tree path
+  harm_public path = ap (λ l. cond (is_under path roots.dkms) l []) (harm_below_same (drop (length roots.dkms) path))
+
+  -- ---- and so what the store holds
+
+  pub all_public : {A : Type 0} (f g : Path → Option A) → ((path : Path) → f path ≡ g path) → filter_map f (keys (public_tree roots tree)) ≡ filter_map f (dkms_entries roots (public_tree roots tree))
+      → filter_map g (keys tree) ≡ filter_map g (dkms_entries roots tree) → filter_map f (keys (public_tree roots tree)) ≡ filter_map g (keys tree)
+  all_public f g same of_public of_tree = of_public ∙ (λ i. filter_map (λ path. same path i) (entries_public i)) ∙ sym of_tree
+
+  pub store_public : store_of roots (public_tree roots tree) ≡ store_of roots tree
+  unfolding store_of
+  store_public =
+      let added = all_public (added_at roots (public_tree roots tree)) (added_at roots tree) added_public (added_told roots apart (public_tree roots tree)) (added_told roots apart tree) in
+      let builds = all_public (build_at roots (public_tree roots tree)) (build_at roots tree) build_public (builds_held roots apart (public_tree roots tree)) (builds_held roots apart tree) in
+      let installed = all_public (installation_at roots (public_tree roots tree)) (installation_at roots tree) installation_public (installations_held roots apart (public_tree roots tree)) (installations_held roots apart tree) in
+      let chests = all_public (chest_at roots (public_tree roots tree)) (chest_at roots tree) chest_public (chests_held roots apart (public_tree roots tree)) (chests_held roots apart tree) in
+      λ i. record { added = added i; builds = builds i; installed = installed i; chests = chests i }
+
+  pub hurt_public : hurt roots (public_tree roots tree) ≡ hurt roots tree
+  unfolding hurt
+  hurt_public = ap least (harms_told roots apart (public_tree roots tree) ∙ (λ i. flat_map (λ path. harm_public path i) (entries_public i)) ∙ sym (harms_told roots apart tree))
+
+  pub read_public : read_of roots (public_tree roots tree) ≡ read_of roots tree
+  unfolding read_of
+  read_public =
+      let hurts = hurt_public in
+      let walks = walked_public LIMITS in
+      let stores = store_public in
+      λ i. unless (first_refusal (hurts i) ((walks i).over)) (stores i)
