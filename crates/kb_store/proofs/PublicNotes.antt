@@ -36,7 +36,7 @@ use Rattle.kb_store.specs.declared.walking.Walk.{Walk}
 use Rattle.kb_store.proofs.OrderLaws.{untrue, is_in, in_more, rises}
 use Rattle.kb_store.proofs.MemberLaws.{in_itself, in_filter, rises_filter, map_same, same_members}
 use Rattle.kb_store.proofs.WalkLaws.{rises_keys, standing}
-use Rattle.kb_store.proofs.NoteLaws.{dkms_entries, not_true, may_tell, word_tells, kernel_plain, source_plain, chest_plain, open_same, then_same, build_same, installation_same, chest_same, added_told, builds_held, builds_told, installations_held, installations_told, chests_held, harms_told}
+use Rattle.kb_store.proofs.NoteLaws.{linked_version, dkms_entries, not_true, may_tell, word_tells, kernel_plain, source_plain, chest_plain, open_same, then_same, build_same, installation_same, chest_same, added_told, builds_held, builds_told, installations_held, installations_told, chests_held, harms_told}
 
 -- ---- below the dkms root a path is public exactly where it isn't private
 
@@ -51,15 +51,6 @@ guarded : (a b x y : Bool) → (a ≡ true → b ≡ true → x ≡ y) → (a &&
 guarded true true x y same = same refl refl
 guarded true false x y same = refl
 guarded false b x y same = refl
-
--- the first of two versions that a link says
-linked_version : (built : List ℕ → Bool) (told : Option (List ℕ)) (version : List ℕ) → option_and_then (λ v. cond (built v) (Some v) None) told ≡ Some version → told ≡ Some version
-linked_version built None version h = h
-linked_version built (Some v) version h = by (built v) h
-  where
-    by : (b : Bool) → cond b (Some v) None ≡ Some version → Some v ≡ Some version
-    by true e = e
-    by false e = let none : None ≡ Some version = e in cc
 
 pub walk_same : (one other : Tree) (most deepest : ℕ) (walk : Walk) (paths : List Path) → ((path : Path) → is_in path paths → node_at one path ≡ node_at other path) → walk_on one most deepest walk paths ≡ walk_on other most deepest walk paths
 walk_same one other most deepest walk [] same = refl
@@ -194,7 +185,7 @@ module _ (roots : Roots) (apart : AreApart roots) (tree : Tree) where
       ∙ then_same (λ version. cond (is_some (boxed roots (public_tree roots tree) (key_of word version) spot)) (Some version) None) (λ version. cond (is_some (boxed roots tree (key_of word version) spot)) (Some version) None)
       (linked_at roots tree path word spot)
       (λ version e. ap (λ told. cond (is_some told) (Some version) None)
-      (boxed_same (key_of word version) spot (both_true named (told-version spot (link_text (node_at tree path)) version (linked_version (λ v. is_built roots tree (key_of word v) spot) said version e))) spotted))
+      (boxed_same (key_of word version) spot (both_true named (told-version spot (link_text (node_at tree path)) version (linked_version (λ v. is_built roots tree (key_of word v) spot) said version e).0)) spotted))
 
   -- ---- kept files
 
