@@ -1,3 +1,4 @@
+pub mod FarLaws
 pub mod LinkLaws
 pub mod MemberLaws
 pub mod NoteLaws

@@ -1,14 +1,19 @@
 -- Rising lists of paths are told by what is in them.
-use Rattle.std.proofs.Common.{◌≡◌, Bool, true, false, cond, ◌&&◌, ◌||◌, List, [], ◌∷◌, refl, sym, ap, ◌∙◌, map, Ordering}
-use Rattle.std.specs.Prelude.{filter}
+use Rattle.std.proofs.Common.{◌≡◌, Bool, true, false, cond, ◌&&◌, ◌||◌, not, List, [], ◌∷◌, ◌++◌, refl, sym, ap, ◌∙◌, map, Ordering}
+use Rattle.std.specs.Prelude.{filter, flat_map}
 use Rattle.std.specs.List.{list_all, list_any}
+use Rattle.std.specs.FinMap.{keys}
 use Rattle.std.specs.declared.cmp.Ordering.TheVariants.{Less, Equal, Greater}
 use Rattle.std.specs.Ordering.{is_lt, ordering_reverse}
 use Rattle.std.specs.Cmp.{first_so, second_so, tied_itself, both_ways}
 use Rattle.std.specs.Cmp.Derive.{both_true}
 use Rattle.kb_world.specs.Path.{Path, path_cmp}
-use Rattle.kb_world.specs.TreeLaws.{same_path, same_path-true, same_path-refl, paths_total}
+use Rattle.kb_world.specs.Roots.{is_below}
+use Rattle.kb_world.specs.Tree.{Tree}
+use Rattle.kb_world.specs.TreeLaws.{same_path, same_path-true, same_path-refl, paths_total, paths_exact}
+use Rattle.kb_store.specs.Walking.{below, entries}
 use Rattle.kb_store.proofs.OrderLaws.{untrue, by_test, rises, is_in, in_more, holds_of, in_rest}
+use Rattle.kb_store.proofs.WalkLaws.{rises_keys}
 
 -- ---- the order of paths
 
@@ -90,7 +95,7 @@ map_same f g (x ∷ paths) same =
 
 -- ---- rising lists with the same paths are one
 
-later_than : (x : Path) (paths : List Path) → rises (x ∷ paths) ≡ true → (path : Path) → is_in path paths → is_lt (path_cmp x path) ≡ true
+pub later_than : (x : Path) (paths : List Path) → rises (x ∷ paths) ≡ true → (path : Path) → is_in path paths → is_lt (path_cmp x path) ≡ true
 later_than x paths up path h = holds_of (λ other. is_lt (path_cmp x other)) paths path (first_so (list_all (λ other. is_lt (path_cmp x other)) paths) (rises paths) up) h
 
 not_behind : (x : Path) (paths : List Path) → rises (x ∷ paths) ≡ true → is_in x paths → ⊥
@@ -112,3 +117,65 @@ same_members (x ∷ xs) (y ∷ ys) up vp same =
     behind e path = both_ways (list_any (same_path path) xs) (list_any (same_path path) ys)
         (λ h. in_rest path y ys (λ is. not_behind x xs up (sym (ap (λ p. list_any (same_path p) xs) (is ∙ sym e)) ∙ h)) (sym (same path) ∙ in_more path x xs h))
         (λ h. in_rest path x xs (λ is. not_behind y ys vp (sym (ap (λ p. list_any (same_path p) ys) (is ∙ e)) ∙ h)) (same path ∙ in_more path y ys h))
+
+-- ---- the entries below a directory
+
+pub in_entries : (tree : Tree) (skips : Path → Bool) (d path : Path) → list_any (same_path path) (entries tree skips d) ≡ (not (skips path) && (is_below path d && list_any (same_path path) (keys tree)))
+in_entries tree skips d path = in_filter (λ q. not (skips q)) (below tree d) path ∙ ap (λ b. not (skips path) && b) (in_filter (λ q. is_below q d) (keys tree) path)
+
+pub entries_rise : (tree : Tree) (skips : Path → Bool) (d : Path) → rises (entries tree skips d) ≡ true
+entries_rise tree skips d = rises_filter (λ q. not (skips q)) (below tree d) (rises_filter (λ q. is_below q d) (keys tree) (rises_keys tree))
+
+-- ---- the order, further
+
+-- what is less than a path is less than any that isn't
+pub less_through : (a b c : Path) → is_lt (path_cmp a b) ≡ true → is_lt (path_cmp c b) ≡ false → is_lt (path_cmp a c) ≡ true
+less_through a b c h k = by (path_cmp c b) refl
+  where
+    by : (o : Ordering) → path_cmp c b ≡ o → is_lt (path_cmp a c) ≡ true
+    by Less e = absurd (untrue (sym k ∙ ap is_lt e))
+    by Equal e = ap (λ p. is_lt (path_cmp a p)) (paths_exact c b e) ∙ h
+    by Greater e = less_then a b c h (ap is_lt (paths_total.antisymm b c ∙ ap ordering_reverse e))
+
+-- of two paths of which neither is less both are one
+pub neither_less : (a b : Path) → is_lt (path_cmp a b) ≡ false → is_lt (path_cmp b a) ≡ false → a ≡ b
+neither_less a b h k = by (path_cmp a b) refl
+  where
+    by : (o : Ordering) → path_cmp a b ≡ o → a ≡ b
+    by Less e = absurd (untrue (sym h ∙ ap is_lt e))
+    by Equal e = paths_exact a b e
+    by Greater e = absurd (untrue (sym k ∙ ap is_lt (paths_total.antisymm b a ∙ ap ordering_reverse e)))
+
+-- ---- lists that are joined
+
+pub in_left : (path : Path) (xs ys : List Path) → is_in path xs → is_in path (xs ++ ys)
+in_left path [] ys h = absurd (untrue h)
+in_left path (x ∷ xs) ys h = front_or_behind path x xs (is_in path ((x ∷ xs) ++ ys)) (λ e. ap (λ b. b || list_any (same_path path) (xs ++ ys)) (ap (same_path path) (sym e) ∙ same_path-refl path)) (λ later. in_more path x (xs ++ ys) (in_left path xs ys later)) h
+
+pub in_right : (path : Path) (xs ys : List Path) → is_in path ys → is_in path (xs ++ ys)
+in_right path [] ys h = h
+in_right path (x ∷ xs) ys h = in_more path x (xs ++ ys) (in_right path xs ys h)
+
+pub in_either : (path : Path) (xs ys : List Path) (C : Type 0) → (is_in path xs → C) → (is_in path ys → C) → is_in path (xs ++ ys) → C
+in_either path [] ys C left right h = right h
+in_either path (x ∷ xs) ys C left right h =
+    front_or_behind path x (xs ++ ys) C (λ e. left (ap (λ b. b || list_any (same_path path) xs) (ap (same_path path) (sym e) ∙ same_path-refl path))) (in_either path xs ys C (λ later. left (in_more path x xs later)) right) h
+
+-- in one of the lists that the paths give
+pub in_flat : (f : Path → List Path) (xs : List Path) (path : Path) (C : Type 0) → ((x : Path) → is_in x xs → is_in path (f x) → C) → is_in path (flat_map f xs) → C
+in_flat f [] path C found h = absurd (untrue h)
+in_flat f (x ∷ xs) path C found h = in_either path (f x) (flat_map f xs) C (found x (in_itself x xs)) (in_flat f xs path C (λ y there. found y (in_more y x xs there))) h
+
+pub flat_in : (f : Path → List Path) (xs : List Path) (x path : Path) → is_in x xs → is_in path (f x) → is_in path (flat_map f xs)
+flat_in f [] x path there h = absurd (untrue there)
+flat_in f (y ∷ xs) x path there h =
+    front_or_behind x y xs (is_in path (f y ++ flat_map f xs)) (λ e. in_left path (f y) (flat_map f xs) (sym (ap (λ z. list_any (same_path path) (f z)) e) ∙ h)) (λ later. in_right path (f y) (flat_map f xs) (flat_in f xs x path later h)) there
+
+pub in_map : (f : Path → Path) (xs : List Path) (path : Path) (C : Type 0) → ((x : Path) → path ≡ f x → C) → is_in path (map f xs) → C
+in_map f [] path C found h = absurd (untrue h)
+in_map f (x ∷ xs) path C found h = front_or_behind path (f x) (map f xs) C (found x) (in_map f xs path C found) h
+
+-- a rising list from some path on
+pub rises_behind : (xs ys : List Path) → rises (xs ++ ys) ≡ true → rises ys ≡ true
+rises_behind [] ys up = up
+rises_behind (x ∷ xs) ys up = rises_behind xs ys (second_so (list_all (λ other. is_lt (path_cmp x other)) (xs ++ ys)) (rises (xs ++ ys)) up)
