@@ -1,45 +1,45 @@
 -- The damage before the first path that passes a limit: the paths before that one tell of it, and those below the
 -- version that the path lies below.
 use Rattle.std.proofs.Common.{◌≡◌, ℕ, Bool, true, false, cond, ◌&&◌, not, List, [], ◌∷◌, ◌++◌, length, drop, map, Option, Some, None, is_some, codes, refl, sym, ap, ◌∙◌, subst, append_assoc, append-nil, Ordering}
-use Rattle.std.specs.Prelude.{bytes_eq, filter, flat_map}
+use Rattle.std.specs.Prelude.{bytes_eq, flat_map}
 use Rattle.std.specs.List.{list_any}
 use Rattle.std.specs.FinMap.{keys, slice_cmp-IsAntisymmetric, nat_cmp-IsAntisymmetric}
 use Rattle.std.specs.declared.cmp.Ordering.TheVariants.{Less, Equal, Greater}
 use Rattle.std.specs.Ordering.{is_lt, ordering_then, nat_cmp}
 use Rattle.std.specs.Cmp.{first_so, second_so}
 use Rattle.std.specs.Cmp.Derive.{both_true}
-use Rattle.std.specs.Cmp.Lexicographic.{slice_cmp, bytes_decides, nat_list_cmp_total}
+use Rattle.std.specs.Cmp.Lexicographic.{slice_cmp, bytes_decides}
 use Rattle.kb_world.specs.Names.{is_word}
 use Rattle.kb_world.specs.Path.{Path, path_cmp, is_under}
 use Rattle.kb_world.specs.Roots.{AreApart, is_below}
 use Rattle.kb_world.specs.Tree.{Tree, node_at, is_file}
-use Rattle.kb_world.specs.TreeLaws.{same_path, same_path-true}
+use Rattle.kb_world.specs.TreeLaws.{same_path}
 use Rattle.kb_world.specs.Public.{is_private}
 use Rattle.kb_world.specs.Store.{is_key, is_added, link_path}
 use Rattle.kb_world.specs.Boxes.{is_spot, key_of, places_at, spot_of_link, linked_at, module_file, targets_path}
 use Rattle.kb_world.specs.Targets.{last_name}
-use Rattle.kb_world.specs.Damage.{least, hurt, harms, harm_at, harm_below, link_harm, source_harm, box_harm, files_harm, unless_sound}
+use Rattle.kb_world.specs.Damage.{least, hurt, harm_at, harm_below, link_harm, source_harm, box_harm, files_harm, unless_sound}
 use Rattle.kb_world.specs.declared.roots.Roots.{Roots}
 use Rattle.kb_world.specs.declared.job.Key.{Key}
 use Rattle.kb_world.specs.declared.job.Spot.{Spot}
-use Rattle.kb_world.specs.declared.refusal.Refusal.{Refusal}
 use Rattle.kb_world.specs.declared.refusal.Refusal.TheVariants as refusal
 use Rattle.kb_world.proofs.PathLaws.{under-append, drop-front}
 use Rattle.kb_world.proofs.DamageLaws.{under-split, spot_of, link_names}
 use Rattle.kb_store.specs.Notes.{version_above, version_within, entries_if, version_entries}
 use Rattle.kb_store.specs.Read.{first_refusal}
-use Rattle.kb_store.specs.Walking.{below, entries}
-use Rattle.kb_store.proofs.OrderLaws.{untrue, by_test, is_in, in_more, rises}
-use Rattle.kb_store.proofs.MemberLaws.{not_itself, not_both, less_then, less_through, neither_less, in_itself, front_or_behind, in_filter, in_entries, entries_rise, in_left, in_right, in_either, in_flat, flat_in, in_map, rises_behind, later_than}
+use Rattle.kb_store.proofs.OrderLaws.{in_front, untrue, by_test, is_in, in_more, rises}
+use Rattle.kb_store.proofs.MemberLaws.{not_itself, not_both, less_through, neither_less, front_or_behind, in_filter, in_entries, entries_rise, in_left, in_right, in_either, in_flat, flat_in, in_map, rises_behind, later_than}
 use Rattle.kb_store.proofs.WalkLaws.{below_more, cmp-append}
 use Rattle.kb_store.proofs.NoteLaws.{dkms_entries, harms_told}
 
 -- ---- the least path
 
+-- the lesser of a path and the least of others
 lesser_of : Path → Option Path → Path
 lesser_of path None = path
 lesser_of path (Some other) = cond (is_lt (path_cmp other path)) other path
 
+-- the least of a list with one path more
 least_more : (path : Path) (paths : List Path) → least (path ∷ paths) ≡ Some (lesser_of path (least paths))
 unfolding lesser_of
 least_more path paths = by (least paths) refl
@@ -49,14 +49,15 @@ least_more path paths = by (least paths) refl
     by (Some other) e = rw e refl
 
 -- it is in the list, and no path in it is less
-abbrev IsLeast : List Path → Option Path → Type 0
+abbrev pub IsLeast : List Path → Option Path → Type 0
 IsLeast paths None = (path : Path) → is_in path paths → ⊥
 IsLeast paths (Some first) = is_in first paths × ((path : Path) → is_in path paths → is_lt (path_cmp path first) ≡ true → ⊥)
 
+-- one path more keeps what is least
 least_step : (x : Path) (paths : List Path) (o : Option Path) → IsLeast paths o → IsLeast (x ∷ paths) (Some (lesser_of x o))
 unfolding lesser_of
 least_step x paths None none = (
-  in_itself x paths,
+  in_front x paths,
   λ path h less.
       front_or_behind path x paths ⊥ (λ e. not_itself x (sym (ap (λ p. is_lt (path_cmp p x)) e) ∙ less)) (none path) h,
 )
@@ -68,17 +69,18 @@ least_step x paths (Some other) least_so = by (is_lt (path_cmp other x)) refl
       λ path h less. front_or_behind path x paths ⊥ (λ is. not_both other x e (sym (ap (λ p. is_lt (path_cmp p other)) is) ∙ less)) (λ later. least_so.1 path later less) h,
     )
     by false e = subst (λ b. IsLeast (x ∷ paths) (Some (cond b other x))) (sym e) (
-      in_itself x paths,
+      in_front x paths,
       λ path h less. front_or_behind path x paths ⊥ (λ is. not_itself x (sym (ap (λ p. is_lt (path_cmp p x)) is) ∙ less)) (λ later. least_so.1 path later (less_through path x other less e)) h,
     )
 
-least_is : (paths : List Path) → IsLeast paths (least paths)
+-- the least path is in the list, and none is less
+pub least_is : (paths : List Path) → IsLeast paths (least paths)
 least_is [] = λ path h. untrue h
 least_is (x ∷ paths) = subst (IsLeast (x ∷ paths)) (sym (least_more x paths)) (least_step x paths (least paths) (least_is paths))
 
 -- ---- with a bound, only lesser paths count
 
-abbrev HasLesser : Path → List Path → List Path → Type 0
+abbrev pub HasLesser : Path → List Path → List Path → Type 0
 HasLesser far xs ys = (path : Path) → is_lt (path_cmp path far) ≡ true → is_in path xs → is_in path ys
 
 too_many : (far harm : Path) → is_lt (path_cmp harm far) ≡ false → first_refusal (Some harm) (Some far) ≡ Some (refusal.TooMany far)
@@ -88,6 +90,7 @@ too_many far harm e = ap (λ b. Some (cond b (refusal.Damaged harm) (refusal.Too
 none_less : (far harm : Path) (xs ys : List Path) → IsLeast xs None → IsLeast ys (Some harm) → HasLesser far ys xs → is_lt (path_cmp harm far) ≡ false
 none_less far harm xs ys none least_so back = by_test (is_lt (path_cmp harm far)) (λ h. none harm (back harm h least_so.0))
 
+-- the same, by what the least paths are
 refusal_same : (far : Path) (xs ys : List Path) → HasLesser far xs ys → HasLesser far ys xs → (a b : Option Path) → IsLeast xs a → IsLeast ys b → first_refusal a (Some far) ≡ first_refusal b (Some far)
 refusal_same far xs ys there back None None p q = refl
 refusal_same far xs ys there back None (Some k) p q = sym (too_many far k (none_less far k xs ys p q back))
@@ -104,6 +107,7 @@ refusal_same far xs ys there back (Some h) (Some k) p q = by (is_lt (path_cmp h 
 pub same_refusal : (far : Path) (xs ys : List Path) → HasLesser far xs ys → HasLesser far ys xs → first_refusal (least xs) (Some far) ≡ first_refusal (least ys) (Some far)
 same_refusal far xs ys there back = refusal_same far xs ys there back (least xs) (least ys) (least_is xs) (least_is ys)
 
+-- names that compare alike are one
 names_exact : (a b : List ℕ) → slice_cmp nat_cmp a b ≡ Equal → a ≡ b
 names_exact = slice_cmp-IsAntisymmetric nat_cmp-IsAntisymmetric
 
@@ -127,17 +131,21 @@ not_above d name rest h = untrue (sym (ap (λ p. is_lt (path_cmp (d ++ name ∷ 
 
 -- ---- which damaged paths a path tells of
 
+-- what is in a list behind a test is in it
 in_open : (b : Bool) (xs : List Path) (path : Path) → is_in path (cond b xs []) → is_in path xs
 in_open true xs path h = h
 in_open false xs path h = absurd (untrue h)
 
+-- in a list of one path
 in_one : (path x : Path) → is_in path (x ∷ []) → path ≡ x
 in_one path x h = front_or_behind path x [] (path ≡ x) (λ e. e) (λ k. absurd (untrue k)) h
 
+-- in a list that a sound part leaves empty
 in_unless : (b : Bool) (path x : Path) → is_in path (unless_sound b x) → path ≡ x
 in_unless true path x h = absurd (untrue h)
 in_unless false path x h = in_one path x h
 
+-- a link tells only of itself
 of_link : (roots : Roots) (tree : Tree) (at : Path) (word : List ℕ) (told : Option Spot) (path : Path) → is_in path (link_harm roots tree at word told) → path ≡ at
 of_link roots tree at word None path h = absurd (untrue h)
 of_link roots tree at word (Some spot) path h = in_unless (is_some (linked_at roots tree at word spot)) path at h
@@ -174,6 +182,7 @@ near roots tree (word ∷ version ∷ kernel ∷ arch ∷ name ∷ more ∷ rest
 
 -- ---- the paths below the version
 
+-- three names below the dkms root lie below a version
 version_within-is : (roots : Roots) (word version name : List ℕ) (rest : Path) → version_above roots (roots.dkms ++ word ∷ version ∷ name ∷ rest) ≡ Some (roots.dkms ++ word ∷ version ∷ [])
 version_within-is roots word version name rest =
     ap (λ b. cond b (version_within roots (drop (length roots.dkms) (roots.dkms ++ word ∷ version ∷ name ∷ rest))) None) (under-append roots.dkms (word ∷ version ∷ name ∷ rest))
@@ -187,6 +196,7 @@ module _ (roots : Roots) (tree : Tree) where
       let split = under-split path d (first_so (is_under path d) (not (is_under d path)) h) ∙ append_assoc roots.dkms (word ∷ version ∷ []) (drop (length d) path) in
       ap (λ p. is_below p roots.dkms) split ∙ below_more roots.dkms word (version ∷ drop (length d) path)
 
+  -- what is below that version is an entry of the dkms root
   within_entries : (names : Path) (path : Path) → is_in path (entries_if roots tree (version_within roots names)) → is_in path (dkms_entries roots tree)
   within_entries [] path h = absurd (untrue h)
   within_entries (word ∷ []) path h = absurd (untrue h)
@@ -199,6 +209,7 @@ module _ (roots : Roots) (tree : Tree) where
       in_entries tree (is_private roots) roots.dkms path
       ∙ both_true open_so (both_true (below_version word version path (first_so (is_below path d) _ there)) (second_so (is_below path d) _ there))
 
+  -- the same of the version that a path lies below
   beside_entries : (far path : Path) → is_in path (version_entries roots tree far) → is_in path (dkms_entries roots tree)
   beside_entries far path h = by (is_under far roots.dkms) refl
     where

@@ -1,6 +1,6 @@
 -- What each path tells of a store: only paths below the dkms root that aren't private tell anything, and where nothing
 -- is damaged, what is told is what is there.
-use Rattle.std.proofs.Common.{◌≡◌, ℕ, Bool, true, false, cond, ◌&&◌, not, List, [], ◌∷◌, ◌++◌, length, drop, Option, Some, None, is_some, codes, refl, sym, ap, ◌∙◌, append-nil}
+use Rattle.std.proofs.Common.{◌≡◌, ℕ, Bool, true, false, cond, ◌&&◌, not, List, [], ◌∷◌, ◌++◌, length, drop, Option, Some, None, is_some, codes, refl, sym, ap, ◌∙◌}
 use Rattle.std.specs.Prelude.{bytes_eq, filter, filter_map, flat_map, option_and_then}
 use Rattle.std.specs.List.{cons_option}
 use Rattle.std.specs.Option.{option_map}
@@ -30,16 +30,14 @@ use Rattle.kb_world.proofs.PublicLaws.{in_dkms}
 use Rattle.kb_store.specs.Contents.{build_of, build_by, build_at, installation_of, installation_by, installation_at, chest_by, chest_at, chest_files}
 use Rattle.kb_store.specs.Notes.{told_build, told_installation}
 use Rattle.kb_store.specs.Walking.{below, entries}
-use Rattle.kb_store.specs.declared.store.Build.{Build}
-use Rattle.kb_store.specs.declared.store.Installation.{Installation}
-use Rattle.kb_store.specs.declared.store.Chest.{Chest}
-use Rattle.kb_store.proofs.OrderLaws.{untrue, by_test}
+use Rattle.kb_store.proofs.OrderLaws.{untrue}
 use Rattle.kb_store.proofs.WalkLaws.{below_more}
 
 -- the paths below the dkms root that aren't private
 abbrev pub dkms_entries : Roots → Tree → List Path
 dkms_entries roots tree = entries tree (is_private roots) roots.dkms
 
+-- a test whose negation holds fails
 pub not_true : (b : Bool) → not b ≡ true → b ≡ false
 not_true true h = absurd (untrue (h))
 not_true false h = refl
@@ -55,6 +53,7 @@ filter_map-passed {A} test f none (path ∷ paths) = by (test path) refl (filter
     by true e later = ap (cons_option (f path)) later ∙ sym (ap (λ b. filter_map f (cond b (path ∷ filter test paths) (filter test paths))) e)
     by false e later = ap (λ o. cons_option o (filter_map f paths)) (none path e) ∙ later ∙ sym (ap (λ b. filter_map f (cond b (path ∷ filter test paths) (filter test paths))) e)
 
+-- the same of what gives lists
 pub flat_map-passed : (test : Path → Bool) (f : Path → List Path) → ((path : Path) → test path ≡ false → f path ≡ []) → (paths : List Path) → flat_map f paths ≡ flat_map f (filter test paths)
 flat_map-passed test f none [] = refl
 flat_map-passed test f none (path ∷ paths) = by (test path) refl (flat_map-passed test f none paths)
@@ -118,6 +117,7 @@ told_by_entries roots apart f silent tree =
     filter_map-passed (λ path. is_below path roots.dkms) f (silent_beside roots apart f None silent) (keys tree)
     ∙ filter_map-passed (λ path. not (is_private roots path)) f (silent_private roots apart f None silent) (below tree roots.dkms)
 
+-- the same of damaged paths
 pub harm_by_entries : (roots : Roots) → AreApart roots → (f : Path → List Path) → IsSilent roots f [] → (tree : Tree) → flat_map f (keys tree) ≡ flat_map f (dkms_entries roots tree)
 harm_by_entries roots apart f silent tree =
     flat_map-passed (λ path. is_below path roots.dkms) f (silent_beside roots apart f [] silent) (keys tree)
@@ -129,16 +129,20 @@ harm_by_entries roots apart f silent tree =
 pub word_tells : (word : List ℕ) (rest : Path) → is_word word ≡ true → is_scratch (word ∷ rest) ≡ false → may_tell (word ∷ rest) ≡ true
 word_tells word rest named plain = both_true (known word named).begins (ap not plain)
 
+-- the same, as a premise that can't hold
 told_word : (word : List ℕ) (rest : Path) → is_word word ≡ true → is_scratch (word ∷ rest) ≡ false → may_tell (word ∷ rest) ≡ false → ⊥
 told_word word rest named plain h = untrue (sym h ∙ word_tells word rest named plain)
 
+-- what stands behind a test that fails isn't reached
 shut : {A : Type 0} (test : Bool) (x nothing : A) → (test ≡ true → ⊥) → cond test x nothing ≡ nothing
 shut true x nothing never = absurd (never refl)
 shut false x nothing never = refl
 
+-- no kernel is named build
 no_kernel : (kernel : List ℕ) → is_kernel kernel ≡ true → bytes_eq kernel (codes "build") ≡ false
 no_kernel kernel h = not_true (bytes_eq kernel (codes "build")) (second_so (is_word kernel) (not (bytes_eq kernel (codes "build"))) (first_so (is_word kernel && not (bytes_eq kernel (codes "build"))) (not (bytes_eq kernel (codes "source"))) h))
 
+-- a conjunction whose second part fails, fails
 and_false : (a b : Bool) → b ≡ false → (a && b) ≡ false
 and_false true b h = h
 and_false false b h = refl
@@ -147,6 +151,7 @@ and_false false b h = refl
 pub kernel_plain : (word version kernel : List ℕ) (rest : Path) → is_kernel kernel ≡ true → is_scratch (word ∷ version ∷ kernel ∷ rest) ≡ false
 kernel_plain word version kernel rest h = and_false (is_word word && is_version version) (bytes_eq kernel (codes "build")) (no_kernel kernel h)
 
+-- nor is a version's link
 pub source_plain : (word version name : List ℕ) (rest : Path) → bytes_eq name (codes "source") ≡ true → is_scratch (word ∷ version ∷ name ∷ rest) ≡ false
 source_plain word version name rest h = and_false (is_word word && is_version version) (bytes_eq name (codes "build")) (ap (λ n. bytes_eq n (codes "build")) ((bytes_decides name (codes "source")).0 h))
 
@@ -155,6 +160,7 @@ pub chest_plain : (word name : List ℕ) (rest : Path) → bytes_eq name (codes 
 chest_plain word name [] h = refl
 chest_plain word name (kernel ∷ rest) h = ap (λ b. b && bytes_eq kernel (codes "build")) (and_false (is_word word) (is_version name) (ap is_version ((bytes_decides name (codes "original_module")).0 h)))
 
+-- names that may tell nothing are those of no package, build, link, chest or damage
 no_package : (names : Path) → may_tell names ≡ false → package_of names ≡ None
 no_package [] h = refl
 no_package (word ∷ []) h = refl
@@ -164,6 +170,7 @@ no_package (word ∷ version ∷ name ∷ []) h = shut (is_word word && is_versi
     told_word word (version ∷ name ∷ []) (first_so (is_word word) (is_version version) front) (source_plain word version name [] (second_so (is_word word && is_version version) (bytes_eq name (codes "source")) e)) h)
 no_package (word ∷ version ∷ name ∷ more ∷ rest) h = refl
 
+-- each of what is told is silent at other paths
 pub added_silent : (roots : Roots) (tree : Tree) → IsSilent roots (added_at roots tree) None
 added_silent roots tree = record {
   outside = λ path e. rw e refl;
@@ -222,14 +229,17 @@ no_harm roots tree (word ∷ version ∷ kernel ∷ arch ∷ name ∷ more ∷ r
 
 -- ---- what is asked alike where names keep their rules, is told alike
 
+-- two values behind one test are alike where it holds
 pub open_same : {A : Type 0} (test : Bool) (x y nothing : A) → (test ≡ true → x ≡ y) → cond test x nothing ≡ cond test y nothing
 open_same true x y nothing same = same refl
 open_same false x y nothing same = refl
 
+-- two steps that go on alike from what is told
 pub then_same : {A B : Type 0} (f g : A → Option B) (told : Option A) → ((x : A) → told ≡ Some x → f x ≡ g x) → option_and_then f told ≡ option_and_then g told
 then_same f g None same = refl
 then_same f g (Some x) same = same x refl
 
+-- builds, links and chests are told alike by what is alike at names that keep their rules
 pub build_same : (p q : Key → Spot → Option (List Path)) → ((key : Key) (spot : Spot) → is_key key ≡ true → is_spot spot ≡ true → p key spot ≡ q key spot) → (names : Path) → build_by p names ≡ build_by q names
 build_same p q same [] = refl
 build_same p q same (word ∷ []) = refl
@@ -293,29 +303,37 @@ chest_silent roots tree = below_silent roots (chest_by (chest_files roots tree))
 pub harm_silent : (roots : Roots) (tree : Tree) → IsSilent roots (harm_at roots tree) []
 harm_silent roots tree = below_silent roots (harm_below roots tree) [] (no_harm roots tree)
 
+-- of added versions
 pub added_told : (roots : Roots) → AreApart roots → (tree : Tree) → filter_map (added_at roots tree) (keys tree) ≡ filter_map (added_at roots tree) (dkms_entries roots tree)
 added_told roots apart tree = told_by_entries roots apart (added_at roots tree) (added_silent roots tree) tree
 
+-- of builds that are there
 pub builds_held : (roots : Roots) → AreApart roots → (tree : Tree) → filter_map (build_at roots tree) (keys tree) ≡ filter_map (build_at roots tree) (dkms_entries roots tree)
 builds_held roots apart tree = told_by_entries roots apart (build_at roots tree) (build_silent roots tree) tree
 
+-- of builds by their `targets` alone
 pub builds_told : (roots : Roots) → AreApart roots → (tree : Tree) → filter_map (told_build roots tree) (keys tree) ≡ filter_map (told_build roots tree) (dkms_entries roots tree)
 builds_told roots apart tree = told_by_entries roots apart (told_build roots tree) (told_build_silent roots tree) tree
 
+-- of installed versions
 pub installations_held : (roots : Roots) → AreApart roots → (tree : Tree) → filter_map (installation_at roots tree) (keys tree) ≡ filter_map (installation_at roots tree) (dkms_entries roots tree)
 installations_held roots apart tree = told_by_entries roots apart (installation_at roots tree) (installation_silent roots tree) tree
 
+-- of links to builds
 pub installations_told : (roots : Roots) → AreApart roots → (tree : Tree) → filter_map (told_installation roots tree) (keys tree) ≡ filter_map (told_installation roots tree) (dkms_entries roots tree)
 installations_told roots apart tree = told_by_entries roots apart (told_installation roots tree) (told_installation_silent roots tree) tree
 
+-- of kept files
 pub chests_held : (roots : Roots) → AreApart roots → (tree : Tree) → filter_map (chest_at roots tree) (keys tree) ≡ filter_map (chest_at roots tree) (dkms_entries roots tree)
 chests_held roots apart tree = told_by_entries roots apart (chest_at roots tree) (chest_silent roots tree) tree
 
+-- of damaged paths
 pub harms_told : (roots : Roots) → AreApart roots → (tree : Tree) → flat_map (harm_at roots tree) (keys tree) ≡ flat_map (harm_at roots tree) (dkms_entries roots tree)
 harms_told roots apart tree = harm_by_entries roots apart (harm_at roots tree) (harm_silent roots tree) tree
 
 -- ---- where nothing is damaged, what is told is there
 
+-- `targets` that is read stands
 told-stands : (at : Option Node) (places : List Path) → option_and_then targets_of (file_bytes at) ≡ Some places → is_some at ≡ true
 told-stands None places h = let none : None ≡ Some places = h in absurd (cc)
 told-stands (Some at) places h = refl
@@ -332,15 +350,18 @@ linked_version built (Some v) version h = by (built v) refl
         (some, ap built (sym is) ∙ e)
     by false e = let none : None ≡ Some version = sym (ap (λ b. cond b (Some v) None) e) ∙ h in absurd (cc)
 
+-- a step that gives back what it was told
 then_itself : {A : Type 0} (f : A → Option A) (told : Option A) → ((x : A) → told ≡ Some x → f x ≡ Some x) → told ≡ option_and_then f told
 then_itself f None same = refl
 then_itself f (Some x) same = sym (same x refl)
 
+-- a test of which both sides are alike doesn't count
 either_none : (b : Bool) (nothing : Option (List Path)) → cond b nothing nothing ≡ nothing
 either_none true nothing = refl
 either_none false nothing = refl
 
 module _ (roots : Roots) (tree : Tree) (unhurt : hurt roots tree ≡ None) where
+  -- a build that is told has all its files, below an added version
   whole_box : (key : Key) (spot : Spot) → is_key key ≡ true → is_spot spot ≡ true → places_at roots tree key spot ≡ boxed roots tree key spot
   whole_box key spot named spotted = by (places_at roots tree key spot) refl
     where
@@ -356,6 +377,7 @@ module _ (roots : Roots) (tree : Tree) (unhurt : hurt roots tree ≡ None) where
           let told = box.told in
           told ∙ sym ((λ i. cond (there i) (whole (told i)) None) ∙ ap (λ b. cond b (Some box.places) None) box.files)
 
+  -- so a link to a build is one to a build that is whole
   whole_link : (word : List ℕ) (spot : Spot) → is_word word ≡ true → is_spot spot ≡ true → linked_at roots tree (kernel_link_path roots word spot) word spot ≡ installed roots tree word spot
   whole_link word spot named spotted =
       let path : Path = kernel_link_path roots word spot in
@@ -365,9 +387,11 @@ module _ (roots : Roots) (tree : Tree) (unhurt : hurt roots tree ≡ None) where
       let named_so = both_true named (told-version spot (link_text (node_at tree path)) version linked.0) in
       ap (λ b. cond b (Some version) None) (sym (ap is_some (whole_box (key_of word version) spot named_so spotted)) ∙ linked.1))
 
+  -- a build that is told is there
   pub build_held : (path : Path) → told_build roots tree path ≡ build_at roots tree path
   build_held path = ap (λ o. cond (is_under path roots.dkms) o None) (build_same (places_at roots tree) (boxed roots tree) whole_box (drop (length roots.dkms) path))
 
+  -- and a link that is told is an installed version
   pub installation_held : (path : Path) → told_installation roots tree path ≡ installation_at roots tree path
   installation_held path =
       ap (λ o. cond (is_under path roots.dkms) o None)

@@ -7,39 +7,39 @@ use Rattle.std.specs.FinMap.{keys}
 use Rattle.std.specs.Cmp.{first_so, second_so}
 use Rattle.std.specs.Cmp.Derive.{both_true}
 use Rattle.kb_world.specs.Names.{is_word, is_version, is_kernel, begins_alphanumeric}
-use Rattle.kb_world.specs.Path.{Path, is_under, are_apart}
+use Rattle.kb_world.specs.Path.{Path, is_under}
 use Rattle.kb_world.specs.Roots.{AreApart, is_below}
-use Rattle.kb_world.specs.Tree.{Tree, node_at, is_dir, is_file, link_text, file_bytes, kind_of}
+use Rattle.kb_world.specs.Tree.{Tree, node_at, is_dir, is_file, link_text, file_bytes}
 use Rattle.kb_world.specs.TreeLaws.{same_path}
 use Rattle.kb_world.specs.Public.{is_private, is_scratch, public_tree}
 use Rattle.kb_world.specs.Store.{is_key, is_added, added_at, link_path, source_text, says, package_of}
 use Rattle.kb_world.specs.Targets.{last_name, targets_of}
-use Rattle.kb_world.specs.Boxes.{is_spot, key_of, spot_of_link, boxed, is_built, has_files, places_at, targets_path, module_file, installed, linked_at, kernel_link_path, kernel_link_name, version_of, chest_path}
+use Rattle.kb_world.specs.Boxes.{is_spot, key_of, spot_of_link, boxed, is_built, has_files, places_at, module_file, installed, linked_at, kernel_link_path, kernel_link_name, version_of, chest_path}
 use Rattle.kb_world.specs.Steps.{kept_files}
-use Rattle.kb_world.specs.Damage.{least, hurt, harms, harm_at, harm_below, link_harm, source_harm, box_harm, files_harm, unless_sound}
+use Rattle.kb_world.specs.Damage.{least, hurt, harm_at, harm_below, link_harm, box_harm, files_harm, unless_sound}
 use Rattle.kb_world.specs.declared.roots.Roots.{Roots}
 use Rattle.kb_world.specs.declared.job.Key.{Key}
 use Rattle.kb_world.specs.declared.job.Spot.{Spot}
-use Rattle.kb_world.specs.declared.tree.Node.{Node}
 use Rattle.kb_world.specs.declared.tree.Node.TheVariants as node
-use Rattle.kb_world.proofs.PathLaws.{elsewhere, under-append, drop-front}
+use Rattle.kb_world.proofs.PathLaws.{elsewhere}
 use Rattle.kb_world.proofs.DamageLaws.{under-split, spot_of, link_names}
 use Rattle.kb_world.proofs.SoundLaws.{told-version}
 use Rattle.kb_world.proofs.SpotLaws.{link_spotted}
 use Rattle.kb_world.proofs.PublicLaws.{in_dkms, shown, written_apart, IsAlwaysPublic}
-use Rattle.kb_store.specs.Contents.{build_by, build_at, installation_by, installation_at, chest_by, chest_at, chest_files, kept_paths, store_of}
+use Rattle.kb_store.specs.Contents.{build_at, installation_at, chest_at, chest_files, store_of}
 use Rattle.kb_store.specs.Notes.{told_build, told_installation}
-use Rattle.kb_store.specs.Read.{read_of, store_refusal, over, first_refusal, unless}
-use Rattle.kb_store.specs.Walking.{below, entries, walked, walk_on, meets, passes_limit, LIMITS}
+use Rattle.kb_store.specs.Read.{read_of, over, first_refusal, unless}
+use Rattle.kb_store.specs.Walking.{entries, walked, walk_on, meets, LIMITS}
 use Rattle.kb_store.specs.declared.walking.Limits.{Limits}
 use Rattle.kb_store.specs.declared.walking.Walk.{Walk}
-use Rattle.kb_store.proofs.OrderLaws.{untrue, is_in, in_more, rises}
-use Rattle.kb_store.proofs.MemberLaws.{in_itself, in_filter, rises_filter, map_same, same_members}
+use Rattle.kb_store.proofs.OrderLaws.{in_front, untrue, is_in, in_more}
+use Rattle.kb_store.proofs.MemberLaws.{in_filter, in_entries, entries_rise, rises_filter, map_same, same_members}
 use Rattle.kb_store.proofs.WalkLaws.{rises_keys, standing}
-use Rattle.kb_store.proofs.NoteLaws.{linked_version, dkms_entries, not_true, may_tell, word_tells, kernel_plain, source_plain, chest_plain, open_same, then_same, build_same, installation_same, chest_same, added_told, builds_held, builds_told, installations_held, installations_told, chests_held, harms_told}
+use Rattle.kb_store.proofs.NoteLaws.{linked_version, dkms_entries, not_true, may_tell, word_tells, kernel_plain, source_plain, chest_plain, open_same, then_same, build_same, installation_same, chest_same, added_told, builds_held, installations_held, chests_held, harms_told}
 
 -- ---- below the dkms root a path is public exactly where it isn't private
 
+-- whatever stands below the dkms root at a path that isn't private is public
 open_below : (roots : Roots) → AreApart roots → (path : Path) → is_private roots path ≡ false → is_below path roots.dkms ≡ true → IsAlwaysPublic roots path
 open_below roots apart path plain h at =
     let under = first_so (is_under path roots.dkms) (not (is_under roots.dkms path)) h in
@@ -52,6 +52,7 @@ guarded true true x y same = same refl refl
 guarded true false x y same = refl
 guarded false b x y same = refl
 
+-- walks over the same paths, at which the same stands, meet the same
 pub walk_same : (one other : Tree) (most deepest : ℕ) (walk : Walk) (paths : List Path) → ((path : Path) → is_in path paths → node_at one path ≡ node_at other path) → walk_on one most deepest walk paths ≡ walk_on other most deepest walk paths
 walk_same one other most deepest walk [] same = refl
 walk_same one other most deepest walk (path ∷ paths) same =
@@ -60,7 +61,7 @@ walk_same one other most deepest walk (path ∷ paths) same =
   where
     at_walk : (o : Option Path) → walk.over ≡ o → meets one most deepest walk path ≡ meets other most deepest walk path
     at_walk (Some over) e = rw e refl
-    at_walk None e = let stands = same path (in_itself path paths) in rw (e, stands) refl
+    at_walk None e = let stands = same path (in_front path paths) in rw (e, stands) refl
 
 -- a list of what fails a test, among what is named
 fails_same : (f g : Path → Bool) (name : Path → Path) (xs : List Path) → ((x : Path) → f (name x) ≡ g (name x)) → filter (λ x. not (f x)) (map name xs) ≡ filter (λ x. not (g x)) (map name xs)
@@ -75,6 +76,7 @@ first_guarded : (a x y u v : Bool) → (a ≡ true → x ≡ y) → (a ≡ true 
 first_guarded true x y u v same and_same = let e = same refl in let f = and_same refl in λ i. e i && f i
 first_guarded false x y u v same and_same = refl
 
+-- none is no package
 no_package : (key : Key) → None ≡ Some key → ⊥
 no_package key h = cc
 
@@ -94,30 +96,27 @@ package_key (word ∷ version ∷ name ∷ []) key h = by (is_word word && is_ve
 package_key (word ∷ version ∷ name ∷ more ∷ rest) key h = absurd (no_package key h)
 
 module _ (roots : Roots) (apart : AreApart roots) (tree : Tree) where
+  -- below the dkms root the public tree has what the tree has, where it isn't private
   pub shown_below : (path : Path) → is_private roots path ≡ false → is_below path roots.dkms ≡ true → node_at (public_tree roots tree) path ≡ node_at tree path
   shown_below path plain h = shown roots tree path (open_below roots apart path plain h)
 
+  -- so its entries are the same
   pub entries_public : dkms_entries roots (public_tree roots tree) ≡ dkms_entries roots tree
-  entries_public = same_members (dkms_entries roots (public_tree roots tree)) (dkms_entries roots tree) (risen (public_tree roots tree)) (risen tree) (λ path.
+  entries_public = same_members (dkms_entries roots (public_tree roots tree)) (dkms_entries roots tree) (entries_rise (public_tree roots tree) (is_private roots) roots.dkms) (entries_rise tree (is_private roots) roots.dkms) (λ path.
       members (public_tree roots tree) path
       ∙ guarded (not (is_private roots path)) (is_below path roots.dkms) _ _ (λ plain h. ap is_some (shown_below path (not_true (is_private roots path) plain) h))
       ∙ sym (members tree path))
     where
-      risen : (t : Tree) → rises (dkms_entries roots t) ≡ true
-      risen t = rises_filter (λ path. not (is_private roots path)) (below t roots.dkms) (rises_filter (λ path. is_below path roots.dkms) (keys t) (rises_keys t))
-
       members : (t : Tree) (path : Path) → list_any (same_path path) (dkms_entries roots t) ≡ (not (is_private roots path) && (is_below path roots.dkms && is_some (node_at t path)))
-      members t path =
-          in_filter (λ q. not (is_private roots q)) (below t roots.dkms) path
-          ∙ ap (λ b. not (is_private roots path) && b) (in_filter (λ q. is_below q roots.dkms) (keys t) path ∙ ap (λ b. is_below path roots.dkms && b) (sym (standing t path)))
+      members t path = in_entries t (is_private roots) roots.dkms path ∙ ap (λ b. not (is_private roots path) && (is_below path roots.dkms && b)) (sym (standing t path))
 
+  -- and the same stands at them
   pub entry_shown : (path : Path) → is_in path (dkms_entries roots tree) → node_at (public_tree roots tree) path ≡ node_at tree path
   entry_shown path h =
-      let all = sym (in_filter (λ q. not (is_private roots q)) (below tree roots.dkms) path) ∙ h in
-      let plain = first_so (not (is_private roots path)) _ all in
-      let under = sym (in_filter (λ q. is_below q roots.dkms) (keys tree) path) ∙ second_so (not (is_private roots path)) _ all in
-      shown_below path (not_true (is_private roots path) plain) (first_so (is_below path roots.dkms) _ under)
+      let here = sym (in_entries tree (is_private roots) roots.dkms path) ∙ h in
+      shown_below path (not_true (is_private roots path) (first_so (not (is_private roots path)) _ here)) (first_so (is_below path roots.dkms) _ (second_so (not (is_private roots path)) _ here))
 
+  -- so a walk meets the same
   pub walked_public : (limits : Limits) → walked limits (public_tree roots tree) (is_private roots) roots.dkms ≡ walked limits tree (is_private roots) roots.dkms
   unfolding walked
   walked_public limits =
@@ -127,18 +126,21 @@ module _ (roots : Roots) (apart : AreApart roots) (tree : Tree) where
 
   -- ---- what stands at the stated paths
 
+  -- at names that may tell something the same stands
   names_shown : (names : Path) → may_tell names ≡ true → node_at (public_tree roots tree) (roots.dkms ++ names) ≡ node_at tree (roots.dkms ++ names)
   names_shown [] h = absurd (untrue h)
   names_shown (name ∷ rest) h =
       shown roots tree (roots.dkms ++ name ∷ rest) (in_dkms roots apart (name ∷ rest) (first_so (begins_alphanumeric name) (not (is_scratch (name ∷ rest))) h)
       (not_true (is_scratch (name ∷ rest)) (second_so (begins_alphanumeric name) (not (is_scratch (name ∷ rest))) h)))
 
+  -- at a version's link
   link_shown : (key : Key) → is_key key ≡ true → node_at (public_tree roots tree) (link_path roots key) ≡ node_at tree (link_path roots key)
   link_shown key named =
       ap (node_at (public_tree roots tree)) (link_names roots key)
       ∙ names_shown (key.module ∷ key.version ∷ codes "source" ∷ []) (word_tells key.module (key.version ∷ codes "source" ∷ []) (first_so (is_word key.module) (is_version key.version) named) (source_plain key.module key.version (codes "source") [] refl))
       ∙ sym (ap (node_at tree) (link_names roots key))
 
+  -- at a build's directory and below it
   box_shown : (key : Key) (spot : Spot) → is_key key ≡ true → is_spot spot ≡ true → (names : Path)
       → node_at (public_tree roots tree) (roots.dkms ++ key.module ∷ key.version ∷ spot.kernel ∷ spot.arch ∷ names) ≡ node_at tree (roots.dkms ++ key.module ∷ key.version ∷ spot.kernel ∷ spot.arch ∷ names)
   box_shown key spot named spotted names =
@@ -189,6 +191,7 @@ module _ (roots : Roots) (apart : AreApart roots) (tree : Tree) where
 
   -- ---- kept files
 
+  -- at a chest and below it
   chest_shown : (word : List ℕ) (spot : Spot) → is_word word ≡ true → (rest : Path) → node_at (public_tree roots tree) (chest_path roots word spot ++ rest) ≡ node_at tree (chest_path roots word spot ++ rest)
   chest_shown word spot named rest =
       let names : Path = word ∷ codes "original_module" ∷ spot.kernel ∷ spot.arch ∷ rest in
@@ -203,6 +206,7 @@ module _ (roots : Roots) (apart : AreApart roots) (tree : Tree) where
       let split = under-split path chest (first_so (is_under path chest) (not (is_under chest path)) h) in
       ap (node_at (public_tree roots tree)) split ∙ chest_shown word spot named (drop (length chest) path) ∙ sym (ap (node_at tree) split)
 
+  -- the same files are kept
   kept_same : (word : List ℕ) (spot : Spot) → is_word word ≡ true → kept_files roots (public_tree roots tree) word spot ≡ kept_files roots tree word spot
   kept_same word spot named =
       ap (map (λ path. (drop (length chest) path, unwrap_or (node_at (public_tree roots tree) path) node.Dir))) same_paths
@@ -301,10 +305,12 @@ module _ (roots : Roots) (apart : AreApart roots) (tree : Tree) where
 
   -- ---- and so what the store holds
 
+  -- over all paths
   pub all_public : {A : Type 0} (f g : Path → Option A) → ((path : Path) → f path ≡ g path) → filter_map f (keys (public_tree roots tree)) ≡ filter_map f (dkms_entries roots (public_tree roots tree))
       → filter_map g (keys tree) ≡ filter_map g (dkms_entries roots tree) → filter_map f (keys (public_tree roots tree)) ≡ filter_map g (keys tree)
   all_public f g same of_public of_tree = of_public ∙ (λ i. filter_map (λ path. same path i) (entries_public i)) ∙ sym of_tree
 
+  -- the public tree holds the same store
   pub store_public : store_of roots (public_tree roots tree) ≡ store_of roots tree
   unfolding store_of
   store_public =
@@ -314,10 +320,12 @@ module _ (roots : Roots) (apart : AreApart roots) (tree : Tree) where
       let chests = all_public (chest_at roots (public_tree roots tree)) (chest_at roots tree) chest_public (chests_held roots apart (public_tree roots tree)) (chests_held roots apart tree) in
       λ i. record { added = added i; builds = builds i; installed = installed i; chests = chests i }
 
+  -- its first damaged path is the same
   pub hurt_public : hurt roots (public_tree roots tree) ≡ hurt roots tree
   unfolding hurt
   hurt_public = ap least (harms_told roots apart (public_tree roots tree) ∙ (λ i. flat_map (λ path. harm_public path i) (entries_public i)) ∙ sym (harms_told roots apart tree))
 
+  -- and so is what a reading answers
   pub read_public : read_of roots (public_tree roots tree) ≡ read_of roots tree
   unfolding read_of
   read_public =
