@@ -1,6 +1,10 @@
+pub mod FarLaws
 pub mod LinkLaws
+pub mod MemberLaws
+pub mod NoteLaws
 pub mod OrderLaws
 pub mod PlaceLaws
+pub mod PublicNotes
 pub mod TargetsLaws
 pub mod VisitLaws
 pub mod WalkLaws

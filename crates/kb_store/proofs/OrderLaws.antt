@@ -60,7 +60,7 @@ not_lt order e h = untrue (sym (ap is_lt e) ∙ h)
 pub deeper : (name next : List ℕ) (rest : Path) → is_lt (path_cmp (name ∷ next ∷ rest) (name ∷ [])) ≡ true → ⊥
 deeper name next rest h = not_lt (path_cmp (name ∷ next ∷ rest) (name ∷ [])) (ap (λ o. ordering_then o Greater) (name_itself name)) h
 
-less : (o : Ordering) → is_lt o ≡ true → o ≡ Less
+pub less : (o : Ordering) → is_lt o ≡ true → o ≡ Less
 less Less h = refl
 less Equal h = absurd (untrue h)
 less Greater h = absurd (untrue h)
@@ -150,7 +150,7 @@ nothing_beyond name entry ((first ∷ next ∷ rest) ∷ paths) h all =
     ap (λ b. cond b ((first ∷ next ∷ rest) ∷ beyond name paths) (beyond name paths)) other
     ∙ nothing_beyond name entry paths h (second_so (is_lt (path_cmp (entry ∷ []) (first ∷ next ∷ rest))) (list_all (λ other. is_lt (path_cmp (entry ∷ []) other)) paths) all)
 
-in_front : (path : Path) (paths : List Path) → is_in path (path ∷ paths)
+pub in_front : (path : Path) (paths : List Path) → is_in path (path ∷ paths)
 in_front path paths = ap (λ b. b || list_any (same_path path) paths) (same_path-refl path)
 
 -- behind an entry, it is the one that stood before

@@ -34,7 +34,7 @@ rises_entries : (es : List (Path × Node)) → is_sorted path_cmp es ≡ true �
 rises_entries [] h = refl
 rises_entries (e ∷ es) h = both_true (all_below e.0 es (first_so (below_all path_cmp e.0 es) (is_sorted path_cmp es) h)) (rises_entries es (second_so (below_all path_cmp e.0 es) (is_sorted path_cmp es) h))
 
-rises_keys : (tree : Tree) → rises (keys tree) ≡ true
+pub rises_keys : (tree : Tree) → rises (keys tree) ≡ true
 rises_keys tree = rises_entries (entries tree) (true_of (is_sorted path_cmp (entries tree)) (entries_sorted tree))
 
 -- ---- names below a directory
@@ -52,13 +52,13 @@ strip_is d path h = under-split path d (first_so (is_under path d) (not (is_unde
 not_under_more : (d : Path) (name : List ℕ) (rest : Path) → is_under d (d ++ name ∷ rest) ≡ false
 not_under_more d name rest = ap (λ p. is_under p (d ++ name ∷ rest)) (sym (append-nil d)) ∙ under-beside d [] (name ∷ rest)
 
-below_more : (d : Path) (name : List ℕ) (rest : Path) → is_below (d ++ name ∷ rest) d ≡ true
+pub below_more : (d : Path) (name : List ℕ) (rest : Path) → is_below (d ++ name ∷ rest) d ≡ true
 below_more d name rest = both_true (under-append d (name ∷ rest)) (ap not (not_under_more d name rest))
 
 strip-more : (d : Path) (name : List ℕ) (rest : Path) → strip d (d ++ name ∷ rest) ≡ Some (name ∷ rest)
 strip-more d name rest = ap (λ b. cond b (Some (drop (length d) (d ++ name ∷ rest))) None) (below_more d name rest) ∙ ap Some (drop-front d (name ∷ rest))
 
-cmp-append : (d a b : Path) → path_cmp (d ++ a) (d ++ b) ≡ path_cmp a b
+pub cmp-append : (d a b : Path) → path_cmp (d ++ a) (d ++ b) ≡ path_cmp a b
 cmp-append [] a b = refl
 cmp-append (name ∷ d) a b = ap (λ o. ordering_then o (path_cmp (d ++ a) (d ++ b))) (tied_itself nat_list_cmp_total name) ∙ cmp-append d a b
 
@@ -129,7 +129,7 @@ dir_stands : (at : Option Node) → is_dir at ≡ true → is_some at ≡ true
 dir_stands None h = h
 dir_stands (Some at) h = refl
 
-standing : (tree : Tree) (q : Path) → is_some (node_at tree q) ≡ list_any (same_path q) (keys tree)
+pub standing : (tree : Tree) (q : Path) → is_some (node_at tree q) ≡ list_any (same_path q) (keys tree)
 standing tree q = contains_key-keys tree q
 
 module _ (tree : Tree) (formed : IsFormed tree) where

@@ -1,14 +1,16 @@
 -- What each path below the dkms root tells of a store without damage, and which damaged paths it tells of. This
 -- project's own.
-use Rattle.std.specs.Prelude.{ℕ, cond, List, [], ◌∷◌, ◌++◌, flat_map, filter_map, Option, Some, None, fold}
+use Rattle.std.specs.Prelude.{ℕ, cond, List, [], ◌∷◌, ◌++◌, length, drop, flat_map, filter_map, Option, Some, None, fold}
 use Rattle.std.specs.Ordering.{is_lt}
-use Rattle.kb_world.specs.Path.{Path, path_cmp}
+use Rattle.kb_world.specs.Path.{Path, path_cmp, is_under}
 use Rattle.kb_world.specs.Tree.{Tree}
+use Rattle.kb_world.specs.Public.{is_private}
 use Rattle.kb_world.specs.Store.{added_at}
 use Rattle.kb_world.specs.Boxes.{places_at, kernel_link_path, linked_at}
 use Rattle.kb_world.specs.Damage.{least, harm_at}
 use Rattle.kb_world.specs.declared.roots.Roots.{Roots}
 use Rattle.kb_store.specs.Contents.{below_dkms, build_by, installation_by}
+use Rattle.kb_store.specs.Walking.{entries}
 use Rattle.kb_store.specs.declared.store.Build.{Build}
 use Rattle.kb_store.specs.declared.store.Installation.{Installation}
 use Rattle.kb_store.specs.declared.notes.Notes.{Notes}
@@ -52,3 +54,23 @@ notes_of roots tree paths = record {
   installed = filter_map (told_installation roots tree) paths;
   hurt = least (flat_map (harm_at roots tree) paths);
 }
+
+-- of names below the dkms root, MODULE/VERSION where there are more behind it
+abbrev pub version_within : Roots → Path → Option Path
+version_within roots (word ∷ version ∷ name ∷ rest) = Some (roots.dkms ++ word ∷ version ∷ [])
+version_within roots (word ∷ version ∷ []) = None
+version_within roots (word ∷ []) = None
+version_within roots [] = None
+
+-- the path MODULE/VERSION below the dkms root that the path lies below, whatever its names are
+abbrev pub version_above : Roots → Path → Option Path
+version_above roots path = cond (is_under path roots.dkms) (version_within roots (drop (length roots.dkms) path)) None
+
+-- the paths below a directory that aren't private, where there is one
+abbrev pub entries_if : Roots → Tree → Option Path → List Path
+entries_if roots tree None = []
+entries_if roots tree (Some directory) = entries tree (is_private roots) directory
+
+-- the paths below the version that the path lies below
+abbrev pub version_entries : Roots → Tree → Path → List Path
+version_entries roots tree path = entries_if roots tree (version_above roots path)
