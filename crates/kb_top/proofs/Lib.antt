@@ -1,6 +1,3 @@
-pub mod AddLaws
-pub mod DoesAdd
-pub mod PlaceLaws
 pub mod RootsLaws
 pub mod RunLaws
 pub mod ServeLaws

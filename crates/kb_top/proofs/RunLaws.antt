@@ -8,7 +8,9 @@ use Rattle.kb_world.specs.Public.{public_tree}
 use Rattle.kb_world.specs.Refusal.{message_of, fault_line, no_memory_line}
 use Rattle.kb_world.specs.Outcome.{Outcome}
 use Rattle.kb_world.specs.Does.{Answers}
+use Rattle.kb_world.specs.Script.{Script}
 use Rattle.kb_world.specs.declared.roots.Roots.{Roots}
+use Rattle.kb_world.specs.declared.job.Host.{Host}
 use Rattle.kb_world.specs.declared.job.Report.{Report}
 use Rattle.kb_world.specs.declared.refusal.Refusal.{Refusal}
 use Rattle.kb_world.specs.declared.stop.Stop.{Stop}
@@ -132,27 +134,29 @@ tells_steady report old new result (Err Fault) never faultless told = absurd (fa
 tells_steady report old new result (Err NoMemory) never faultless told = subst IsAnswerOrWant (sym told.0) tt
 
 -- a refusal is the outcome's, and it has changed nothing
-refused_same : (roots : Roots) (words : List Word) (tree now : Tree) (old new : Outside) (why : Refusal) → EndsAs roots (public_tree roots tree) (outcome_of roots words tree) old new (end.Refused why)
-    → new.world.tree ≡ Some now → public_tree roots now ≡ public_tree roots tree
-refused_same roots words tree now old new why answered is =
+refused_same : (host : Host) (script : Script) (words : List Word) (tree now : Tree) (old new : Outside) (why : Refusal)
+    → EndsAs host.roots (public_tree host.roots tree) (outcome_of host script words tree) old new (end.Refused why)
+    → new.world.tree ≡ Some now → public_tree host.roots now ≡ public_tree host.roots tree
+refused_same host script words tree now old new why answered is =
     let found = answered.tree in
     let same : Some now ≡ Some found.0 = sym is ∙ found.1 in
     let now_is : now ≡ found.0 = cc in
-    ap (public_tree roots) now_is ∙ found.2.public_part ∙ refused_stays roots words tree why answered.ended
+    ap (public_tree host.roots) now_is ∙ found.2.public_part ∙ refused_stays host script words tree why answered.ended
 
 -- the whole call
-pub runs : (roots : Roots) (words : List Word) (old_world new_world : State) (old new : Sinks) (report : Report) (answer : Result (Unit {0}) Stop) (result : End)
-    → Serves roots words old_world new_world nothing_said report answer → Tells answer report old new result
-    → Runs roots words (record { world = old_world; out = old.out; err = old.err }) (record { world = new_world; out = new.out; err = new.err }) result
-runs roots words old_world new_world old new report answer result s t =
+pub runs : (host : Host) (words : List Word) (old_world new_world : State) (old new : Sinks) (report : Report) (answer : Result (Unit {0}) Stop) (result : End)
+    → Serves host words old_world new_world nothing_said report answer → Tells answer report old new result
+    → Runs host words (record { world = old_world; out = old.out; err = old.err }) (record { world = new_world; out = new.out; err = new.err }) result
+runs host words old_world new_world old new report answer result s t =
     let before : Outside = record { world = old_world; out = old.out; err = old.err } in
     let after : Outside = record { world = new_world; out = new.out; err = new.err } in
-    let ends : (tree : Tree) → old_world.tree ≡ Some tree → EndsAs roots (public_tree roots tree) (outcome_of roots words tree) before after result =
-    λ tree told. ends_as roots (public_tree roots tree) (outcome_of roots words tree) before after report answer result (s.answers tree told) t.ends in
+    let ends : (tree : Tree) → old_world.tree ≡ Some tree → old_world.roots ≡ host.roots → EndsAs host.roots (public_tree host.roots tree) (outcome_of host old_world.script words tree) before after result =
+    λ tree told rooted. ends_as host.roots (public_tree host.roots tree) (outcome_of host old_world.script words tree) before after report answer result (s.answers tree told rooted) t.ends in
     record {
       ends = ends;
-      refused = λ why is tree told now told_now.
-          refused_same roots words tree now before after why (subst (λ r. EndsAs roots (public_tree roots tree) (outcome_of roots words tree) before after r) is (ends tree told)) told_now;
+      refused = λ why is rooted tree told now told_now.
+          refused_same host old_world.script words tree now before after why
+          (subst (λ r. EndsAs host.roots (public_tree host.roots tree) (outcome_of host old_world.script words tree) before after r) is (ends tree told rooted)) told_now;
       damaged = s.damaged;
       fault = λ is. let f = tells_fault report old new result answer t.ends is in record { rose = s.cause.rose f.0; out = f.1; err = f.2 };
       sink_fault = λ is. (tells_sink report old new result answer t.ends is).rose;
@@ -166,19 +170,19 @@ runs roots words old_world new_world old new report answer result s t =
     }
 
 -- the same, from a report that is known to be empty
-pub runs_from_empty : (roots : Roots) (words : List Word) (old_world new_world : State) (old new : Sinks) (out err : List ℕ) (report : Report) (answer : Result (Unit {0}) Stop) (result : End)
-    → out ≡ [] → err ≡ [] → Serves roots words old_world new_world (record { out = out; err = err }) report answer → Tells answer report old new result
-    → Runs roots words (record { world = old_world; out = old.out; err = old.err }) (record { world = new_world; out = new.out; err = new.err }) result
-runs_from_empty roots words old_world new_world old new out err report answer result no_out no_err s t =
-    runs roots words old_world new_world old new report answer result
-    (subst (λ e. Serves roots words old_world new_world (record { out = []; err = e }) report answer) no_err
-    (subst (λ o. Serves roots words old_world new_world (record { out = o; err = err }) report answer) no_out s)) t
+pub runs_from_empty : (host : Host) (words : List Word) (old_world new_world : State) (old new : Sinks) (out err : List ℕ) (report : Report) (answer : Result (Unit {0}) Stop) (result : End)
+    → out ≡ [] → err ≡ [] → Serves host words old_world new_world (record { out = out; err = err }) report answer → Tells answer report old new result
+    → Runs host words (record { world = old_world; out = old.out; err = old.err }) (record { world = new_world; out = new.out; err = new.err }) result
+runs_from_empty host words old_world new_world old new out err report answer result no_out no_err s t =
+    runs host words old_world new_world old new report answer result
+    (subst (λ e. Serves host words old_world new_world (record { out = []; err = e }) report answer) no_err
+    (subst (λ o. Serves host words old_world new_world (record { out = o; err = err }) report answer) no_out s)) t
 
 -- want of memory before anything was done
-pub runs_wanting : (roots : Roots) (words : List Word) (world : State) (out old_err new_err : SinkState) → SaysFront no_memory_line old_err new_err
-    → Runs roots words (record { world = world; out = out; err = old_err }) (record { world = world; out = out; err = new_err }) end.NoMemory
-runs_wanting roots words world out old_err new_err says = record {
-  ends = λ tree told. record { out = inl refl; err = says.front };
+pub runs_wanting : (host : Host) (words : List Word) (world : State) (out old_err new_err : SinkState) → SaysFront no_memory_line old_err new_err
+    → Runs host words (record { world = world; out = out; err = old_err }) (record { world = world; out = out; err = new_err }) end.NoMemory
+runs_wanting host words world out old_err new_err says = record {
+  ends = λ tree told rooted. record { out = inl refl; err = says.front };
   refused = λ why is. let impossible : end.NoMemory ≡ end.Refused why = is in cc;
   damaged = λ tree told stands. (refl, refl);
   fault = λ is. let impossible : end.NoMemory ≡ end.Fault = is in cc;

@@ -42,10 +42,16 @@ no_boot (Some text) base roots is apart (inl none) = none is.0 is.1
 no_boot (Some text) base roots is apart (inr found) =
     found.2 (subst AreApart (is.2 ∙ ap (λ p. with_boot p (roots_under base)) (same text is.0 found.0 is.1 found.1)) apart)
 
-one_host : (setting : Setting) (a b : Host) → IsHostOf setting a → IsHostOf setting b → a.roots ≡ b.roots
-one_host setting a b is other =
+one_roots : (setting : Setting) (a b : Host) → IsHostOf setting a → IsHostOf setting b → a.roots ≡ b.roots
+one_roots setting a b is other =
     one_boot setting.boot is.base a.roots b.roots is.roots_are
     (subst (λ base. HasBoot setting.boot base b.roots) (one_base setting.root other.base is.base other.base_is is.base_is) other.roots_are)
+
+one_host : (setting : Setting) (a b : Host) → IsHostOf setting a → IsHostOf setting b → a ≡ b
+one_host setting a b is other =
+    ap (λ (kernel : Option (List ℕ)). record { kernel = kernel; arch = a.arch; roots = a.roots }) (is.kernel_is ∙ sym other.kernel_is)
+    ∙ ap (λ (arch : List ℕ). record { kernel = b.kernel; arch = arch; roots = a.roots }) (is.arch_is ∙ sym other.arch_is)
+    ∙ ap (λ (roots : Roots). record { kernel = b.kernel; arch = b.arch; roots = roots }) (one_roots setting a b is other)
 
 pub good_or_bad_root : (setting : Setting) (host : Host) → IsHostOf setting host → IsBadRoot setting → ⊥
 good_or_bad_root setting host is bad = no_base setting.root is.base is.base_is bad
@@ -59,10 +65,10 @@ pub bad_root_or_boot : (setting : Setting) → IsBadRoot setting → IsBadBoot s
 bad_root_or_boot setting root boot = no_base setting.root boot.base boot.base_is root
 
 -- the words were run
-pub starts_good : (setting : Setting) (host : Host) (words : List Word) (old new : Outside) (result : End) → IsHostOf setting host → Runs host.roots words old new result
+pub starts_good : (setting : Setting) (host : Host) (words : List Word) (old new : Outside) (result : End) → IsHostOf setting host → Runs host words old new result
     → Starts setting words old new result
 starts_good setting host words old new result is ran = record {
-  good = λ other also. subst (λ roots. Runs roots words old new result) (one_host setting host other is also) ran;
+  good = λ other also. subst (λ h. Runs h words old new result) (one_host setting host other is also) ran;
   bad_root = λ bad. absurd (good_or_bad_root setting host is bad);
   bad_boot = λ bad. absurd (good_or_bad_boot setting host is bad);
 }
@@ -112,7 +118,7 @@ starts_bad_boot setting words world out old_err new_err bad says = record {
 pub starts_wanting : (setting : Setting) (words : List Word) (world : State) (out old_err new_err : SinkState) → SaysFront no_memory_line old_err new_err
     → Starts setting words (record { world = world; out = out; err = old_err }) (record { world = world; out = out; err = new_err }) end.NoMemory
 starts_wanting setting words world out old_err new_err says = record {
-  good = λ host is. runs_wanting host.roots words world out old_err new_err says;
+  good = λ host is. runs_wanting host words world out old_err new_err says;
   bad_root = λ bad. set_aside_wanting end.BadRoot bad_root_line world out old_err new_err says;
   bad_boot = λ bad. set_aside_wanting end.BadBoot bad_boot_line world out old_err new_err says;
 }

@@ -1,6 +1,4 @@
-pub mod Add
 pub mod Machine
-pub mod Places
 pub mod Run
 pub mod Serve
 pub mod Setting

@@ -9,6 +9,7 @@ use Rattle.kb_world.specs.Refusal.{message_of, number_of, fault_line, no_memory_
 use Rattle.kb_world.specs.Outcome.{Outcome, last_of}
 use Rattle.kb_world.specs.Does.{IsTreeOf}
 use Rattle.kb_world.specs.declared.roots.Roots.{Roots}
+use Rattle.kb_world.specs.declared.job.Host.{Host}
 use Rattle.kb_world.specs.declared.refusal.Refusal.{Refusal}
 use Rattle.kb_top.specs.declared.end.End.{End}
 use Rattle.kb_top.specs.declared.end.End.TheVariants as end
@@ -112,13 +113,15 @@ pub record CountsStay (old new : Outside) : Type 0 where
   pub err : old.err.faults ≤ new.err.faults
 
 -- The clause of the top call.
-pub record Runs (roots : Roots) (words : List Word) (old new : Outside) (result : End) : Type 0 where
-  -- over a told tree it equals the command machine
-  pub ends : ForSome old.world.tree (λ tree. EndsAs roots (public_tree roots tree) (outcome_of roots words tree) old new result)
+pub record Runs (host : Host) (words : List Word) (old new : Outside) (result : End) : Type 0 where
+  -- over a told tree, of a world whose roots are the host's, it equals the command machine
+  pub ends : ForSome old.world.tree (λ tree. old.world.roots ≡ host.roots →
+      EndsAs host.roots (public_tree host.roots tree) (outcome_of host old.world.script words tree) old new result)
   -- a refusal leaves the public tree as it was
-  pub refused : (why : Refusal) → result ≡ end.Refused why → ForSome old.world.tree (λ tree. ForSome new.world.tree (λ now. public_tree roots now ≡ public_tree roots tree))
+  pub refused : (why : Refusal) → result ≡ end.Refused why → old.world.roots ≡ host.roots →
+      ForSome old.world.tree (λ tree. ForSome new.world.tree (λ now. public_tree host.roots now ≡ public_tree host.roots tree))
   -- where anything stands in the place of a journal, nothing is changed and no child is run
-  pub damaged : ForSome old.world.tree (λ tree. is_some (node_at tree (intent_path roots)) ≡ true → (new.world.tree ≡ old.world.tree) × (new.world.ran ≡ old.world.ran))
+  pub damaged : ForSome old.world.tree (λ tree. is_some (node_at tree (intent_path host.roots)) ≡ true → (new.world.tree ≡ old.world.tree) × (new.world.ran ≡ old.world.ran))
   -- it ends with a fault only where the outside's count rose, and says only the fixed line then
   pub fault : result ≡ end.Fault → IsFaulted old new
   -- and with a sink's fault only where a sink's count rose

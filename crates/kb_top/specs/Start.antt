@@ -21,6 +21,6 @@ pub record IsSetAside (due : End) (line : List ℕ) (old new : Outside) (result 
 
 -- The clause of the program's call.
 pub record Starts (setting : Setting) (words : List Word) (old new : Outside) (result : End) : Type 0 where
-  pub good : (host : Host) → IsHostOf setting host → Runs host.roots words old new result
+  pub good : (host : Host) → IsHostOf setting host → Runs host words old new result
   pub bad_root : IsBadRoot setting → IsSetAside end.BadRoot bad_root_line old new result
   pub bad_boot : IsBadBoot setting → IsSetAside end.BadBoot bad_boot_line old new result

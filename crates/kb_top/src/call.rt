@@ -15,7 +15,8 @@ use std::alloc::Global;
 /// Does the command that the words are: what it has to say goes to `out` and `err`, each written once and only
 /// where there is anything, after all its work is done. Refusals come in this order: something stands where a
 /// journal would stand, the words are no command line, a name breaks its rule, a root that the command needs isn't
-/// a directory, and then the command's own.
+/// a directory, the store is damaged or too large to be read, and then the command's own. Children's replies are told
+/// where the host's roots are those of the world.
 pub fn run<W: World, O: Sink, E: Sink>(
     alloc: Global,
     words: &[Text],
@@ -25,7 +26,7 @@ pub fn run<W: World, O: Sink, E: Sink>(
     err: &mut E,
 ) -> End
     requires { AreApart host.now.roots }
-    ensures { Runs host.now.roots words.now (record { world = W.state world.old; out = O.state out.old; err = E.state err.old })
+    ensures { Runs host.now words.now (record { world = W.state world.old; out = O.state out.old; err = E.state err.old })
         (record { world = W.state world.new; out = O.state out.new; err = E.state err.new }) result }
 {
     let mut report = Report {

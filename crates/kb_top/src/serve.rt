@@ -1,16 +1,23 @@
 // A command, from its words to its report.
-ghost use Rattle.std.specs.Prelude.{◌≡◌, true};
+ghost use Rattle.std.specs.Prelude.{◌≡◌, IfOk, IsTrue, true};
+ghost use Rattle.std.specs.Option.{ForSome};
 ghost use Rattle.kb_world.specs.Public.{intent_path};
 ghost use Rattle.kb_world.specs.Roots.{AreApart};
+ghost use Rattle.kb_world.specs.Store.{is_key};
+ghost use Rattle.kb_world.specs.Tree.{node_at, is_dir};
 ghost use Rattle.kb_world.specs.Does.{Decides, Does};
-ghost use Rattle.kb_top.specs.Machine.{standing_intent, no_roots_of_add, help_text, perform};
-ghost use Rattle.kb_words.specs.Words.{keeps_rules};
+ghost use Rattle.kb_dkms.specs.Host.{keeps_rules};
+ghost use Rattle.kb_words.specs.Words as words;
+ghost use Rattle.kb_top.specs.Machine.{no_root, standing_intent, no_roots_of_add, help_text, known_kernel, known_arch, known_host, add_to_store, perform};
 ghost use Rattle.kb_top.specs.Serve.{Serves};
 
-use crate::add::{add, require_root};
+use kb_store::Store;
 use kb_words::{Command, read_words};
-use kb_world::{Host, Kind, Refusal, Report, Roots, Stop, Text, World};
-use std::alloc::Global;
+use kb_world::{
+    Host, Job, Key, Kind, Path, Refusal, Report, Roots, Sequence, Stop, Text, World, is_arch,
+    is_kernel,
+};
+use std::alloc::{AllocError, Global};
 
 #[tactic(auto, unfolding(crate::specs::Machine::help_text))]
 fn help() -> &'static str
@@ -30,6 +37,18 @@ fn require_no_intent<W: World>(alloc: Global, world: &mut W, roots: &Roots) -> R
     }
 }
 
+// Refused where a root that the command needs isn't a directory.
+fn require_root<W: World>(alloc: Global, world: &mut W, path: &Path) -> Result<(), Stop>
+    ensures { Decides (no_root path.now) (W.state world.old) (W.state world.new) result }
+{
+    match world.look(alloc, path)? {
+        Kind::Dir => Ok(()),
+        _ => Err(Stop::Refused(Refusal::NoRoot {
+            path: path.clone()?,
+        })),
+    }
+}
+
 // Refused where a root that `dkms add` needs isn't a directory.
 fn require_roots_of_add<W: World>(alloc: Global, world: &mut W, roots: &Roots) -> Result<(), Stop>
     ensures { Decides (no_roots_of_add roots.now) (W.state world.old) (W.state world.new) result }
@@ -38,23 +57,87 @@ fn require_roots_of_add<W: World>(alloc: Global, world: &mut W, roots: &Roots) -
     require_root(alloc, world, &roots.src)
 }
 
+// The kernel, where it is known and keeps its rule.
+fn kernel_of(kernel: &Option<Text>) -> Result<Option<Text>, AllocError>
+    ensures { IfOk result (λ known. known ≡ known_kernel kernel.now) }
+{
+    match kernel {
+        Some(kernel) => {
+            if is_kernel(kernel.as_str()) {
+                Ok(Some(kernel.clone()?))
+            } else {
+                Ok(None)
+            }
+        }
+        None => Ok(None),
+    }
+}
+
+// The architecture, where it keeps its rule.
+fn arch_of(alloc: Global, arch: &Text) -> Result<Text, AllocError>
+    ensures { IfOk result (λ known. known ≡ known_arch arch.now) }
+{
+    if is_arch(arch.as_str()) {
+        arch.clone()
+    } else {
+        Text::of(alloc, "unknown")
+    }
+}
+
+// The words, and what is known of the machine that they run on.
+fn job_of(alloc: Global, words: &[Text], host: &Host) -> Result<Job, AllocError>
+    ensures { IfOk result (λ job. job.host ≡ known_host host.now) }
+{
+    let mut copies = Vec::new(alloc);
+    for word in words {
+        copies.push(word.clone()?)?;
+    }
+    Ok(Job {
+        host: Host {
+            kernel: kernel_of(&host.kernel)?,
+            arch: arch_of(alloc, &host.arch)?,
+            roots: host.roots.clone()?,
+        },
+        words: Sequence::from_items(copies),
+    })
+}
+
+// `dkms add`, once the roots that it needs are there: the store is read, and then the package is added to it.
+fn add_to_store<W: World>(
+    alloc: Global,
+    world: &mut W,
+    job: &Job,
+    report: &mut Report,
+    key: &Key,
+) -> Result<(), Stop>
+    requires named { IsTrue (is_key key.now) }
+    requires known { IsTrue (keeps_rules job.now.host) }
+    requires apart { AreApart job.now.host.roots }
+    requires root { ForSome (W.state world.old).tree (λ tree. is_dir (node_at tree job.now.host.roots.dkms) ≡ true) }
+    ensures { Does job.now.host.roots (add_to_store job.now.host (W.state world.old).script key.now) (W.state world.old) (W.state world.new) report.old report.new result }
+{
+    let _store = Store::read(alloc, world, &job.host.roots)?;
+    kb_dkms::add(alloc, world, job, report, key)
+}
+
 // Does a command whose names keep their rules.
 fn perform<W: World>(
     alloc: Global,
     world: &mut W,
-    roots: &Roots,
+    job: &Job,
     report: &mut Report,
     command: &Command,
 ) -> Result<(), Stop>
-    requires named { keeps_rules command.now ≡ true }
-    requires apart { AreApart roots.now }
-    ensures { Does roots.now (perform roots.now command.now) (W.state world.old) (W.state world.new) report.old report.new result }
+    requires named { words.keeps_rules command.now ≡ true }
+    requires known { IsTrue (keeps_rules job.now.host) }
+    requires apart { AreApart job.now.host.roots }
+    ensures { Does job.now.host.roots (perform job.now.host (W.state world.old).script command.now) (W.state world.old) (W.state world.new) report.old report.new result }
 {
     match command {
         Command::Help => Ok(report.out.push(help().as_bytes())?),
         Command::Add { key } => {
-            require_roots_of_add(alloc, world, roots)?;
-            add(alloc, world, roots, report, key)
+            require_roots_of_add(alloc, world, &job.host.roots)?;
+            add_to_store(alloc, world, job, report, key)
         }
     }
 }
@@ -68,9 +151,10 @@ pub fn serve<W: World>(
     report: &mut Report,
 ) -> Result<(), Stop>
     requires { AreApart host.now.roots }
-    ensures { Serves host.now.roots words.now (W.state world.old) (W.state world.new) report.old report.new result }
+    ensures { Serves host.now words.now (W.state world.old) (W.state world.new) report.old report.new result }
 {
     require_no_intent(alloc, world, &host.roots)?;
     let command = read_words(alloc, words, host)?;
-    perform(alloc, world, &host.roots, report, &command)
+    let job = job_of(alloc, words, host)?;
+    perform(alloc, world, &job, report, &command)
 }

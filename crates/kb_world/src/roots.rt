@@ -41,3 +41,20 @@ impl Roots {
         })
     }
 }
+
+impl Clone for Roots {
+    ghost is_clone = { λ roots made. made ≡ roots };
+
+    fn clone(&self) -> Result<Self, AllocError> {
+        Ok(Roots {
+            base: self.base.clone()?,
+            dkms: self.dkms.clone()?,
+            src: self.src.clone()?,
+            modules: self.modules.clone()?,
+            boot: self.boot.clone()?,
+            etc: self.etc.clone()?,
+            lib: self.lib.clone()?,
+            proc: self.proc.clone()?,
+        })
+    }
+}
