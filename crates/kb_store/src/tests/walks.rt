@@ -81,7 +81,7 @@ fn expect_walk(rt: &impl Abort, alloc: Global, world: &mut MemoryWorld) -> Resul
         Some(Node::Dir) => {}
         _ => return Ok(()),
     }
-    let walk = walk_below(alloc, world, &roots, &roots.dkms)?;
+    let walk = walk_below(alloc, world, &roots, &roots.dkms, LIMITS)?;
     assert!(rt; walk.over.is_none());
     assert_eq!(rt; text_of(alloc, &walk)?.as_str(), MET);
     Ok(())
