@@ -1,3 +1,4 @@
+pub mod LimitLaws
 pub mod LinkLaws
 pub mod OrderLaws
 pub mod PlaceLaws

@@ -34,7 +34,7 @@ rises_entries : (es : List (Path × Node)) → is_sorted path_cmp es ≡ true �
 rises_entries [] h = refl
 rises_entries (e ∷ es) h = both_true (all_below e.0 es (first_so (below_all path_cmp e.0 es) (is_sorted path_cmp es) h)) (rises_entries es (second_so (below_all path_cmp e.0 es) (is_sorted path_cmp es) h))
 
-rises_keys : (tree : Tree) → rises (keys tree) ≡ true
+pub rises_keys : (tree : Tree) → rises (keys tree) ≡ true
 rises_keys tree = rises_entries (entries tree) (true_of (is_sorted path_cmp (entries tree)) (entries_sorted tree))
 
 -- ---- names below a directory
