@@ -1,3 +1,4 @@
+pub mod ChestLaws
 pub mod LimitLaws
 pub mod LinkLaws
 pub mod OrderLaws

@@ -164,17 +164,22 @@ rises_filter keeps (path ∷ paths) up = by (keeps path) (rises_filter keeps pat
 pub rises_below : (tree : Tree) (skips : Path → Bool) (start : Path) → rises (entries tree skips start) ≡ true
 rises_below tree skips start = rises_filter (λ path. not (skips path)) (below tree start) (rises_filter (λ path. is_below path start) (keys tree) (rises_keys tree))
 
--- what stands before a path of a list that rises is less than it, and what stands behind it is greater
+-- What stands before a path of a list that rises is less than it. What stands behind it is greater, and rises.
 pub record IsBetween (before : List Path) (far : Path) (behind : List Path) : Type 0 where
   pub less : list_all (λ path. is_lt (path_cmp path far)) before ≡ true
   pub greater : list_all (λ path. is_lt (path_cmp far path)) behind ≡ true
+  pub up : rises behind ≡ true
 
 pub between : (before : List Path) (far : Path) (behind : List Path) → rises (before ++ far ∷ behind) ≡ true → IsBetween before far behind
-between [] far behind up = record { less = refl; greater = first_so (list_all (λ other. is_lt (path_cmp far other)) behind) (rises behind) up }
+between [] far behind up = record {
+  less = refl;
+  greater = first_so (list_all (λ other. is_lt (path_cmp far other)) behind) (rises behind) up;
+  up = second_so (list_all (λ other. is_lt (path_cmp far other)) behind) (rises behind) up;
+}
 between (path ∷ before) far behind up =
     let all = first_so (list_all (λ other. is_lt (path_cmp path other)) (before ++ far ∷ behind)) (rises (before ++ far ∷ behind)) up in
     let later = between before far behind (second_so (list_all (λ other. is_lt (path_cmp path other)) (before ++ far ∷ behind)) (rises (before ++ far ∷ behind)) up) in
-    record { less = both_true (here before all) later.less; greater = later.greater }
+    record { less = both_true (here before all) later.less; greater = later.greater; up = later.up }
   where
     here : (paths : List Path) → list_all (λ other. is_lt (path_cmp path other)) (paths ++ far ∷ behind) ≡ true → is_lt (path_cmp path far) ≡ true
     here [] all = first_so (is_lt (path_cmp path far)) (list_all (λ other. is_lt (path_cmp path other)) behind) all

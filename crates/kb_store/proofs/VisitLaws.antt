@@ -62,7 +62,7 @@ meets-open tree most deepest walk path h = by walk.over refl h
     by None e none = rw e refl
     by (Some over) e none = let impossible : true ≡ false = none in cc
 
-dir_of : (at : Option Node) → is_dir_kind (kind_of at) ≡ is_dir at
+pub dir_of : (at : Option Node) → is_dir_kind (kind_of at) ≡ is_dir at
 dir_of None = refl
 dir_of (Some node.Dir) = refl
 dir_of (Some (node.File bytes exec)) = refl

@@ -52,7 +52,7 @@ strip_is d path h = under-split path d (first_so (is_under path d) (not (is_unde
 not_under_more : (d : Path) (name : List ℕ) (rest : Path) → is_under d (d ++ name ∷ rest) ≡ false
 not_under_more d name rest = ap (λ p. is_under p (d ++ name ∷ rest)) (sym (append-nil d)) ∙ under-beside d [] (name ∷ rest)
 
-below_more : (d : Path) (name : List ℕ) (rest : Path) → is_below (d ++ name ∷ rest) d ≡ true
+pub below_more : (d : Path) (name : List ℕ) (rest : Path) → is_below (d ++ name ∷ rest) d ≡ true
 below_more d name rest = both_true (under-append d (name ∷ rest)) (ap not (not_under_more d name rest))
 
 strip-more : (d : Path) (name : List ℕ) (rest : Path) → strip d (d ++ name ∷ rest) ≡ Some (name ∷ rest)

@@ -1,6 +1,7 @@
 //! What stands below the dkms root: the file `targets` of a build.
 #![tactic(auto)]
 
+mod chests;
 mod entries;
 mod links;
 mod notes;
