@@ -1,10 +1,13 @@
+pub mod ChestLaws
 pub mod FarLaws
+pub mod LimitLaws
 pub mod LinkLaws
 pub mod MemberLaws
 pub mod NoteLaws
 pub mod OrderLaws
 pub mod PlaceLaws
 pub mod PublicNotes
+pub mod ReadLaws
 pub mod TargetsLaws
 pub mod VisitLaws
 pub mod WalkLaws

@@ -1,3 +1,4 @@
+pub mod Chests
 pub mod Contents
 pub mod Notes
 pub mod PrivateLaws

@@ -27,6 +27,10 @@ entry_block tree skips directory name = cond (skips (child directory name)) [] (
 abbrev pub LIMITS : Limits
 LIMITS = record { entries = 65536; depth = 64 }
 
+-- what is met at a path
+abbrev pub met_at : Tree → Path → Met
+met_at tree path = record { path = path; kind = kind_of (node_at tree path) }
+
 -- The path passes a limit: as many entries as may be were met before it, or a directory stands there whose path has
 -- more names than this.
 abbrev pub passes_limit : Tree → ℕ → ℕ → List Met → Path → Bool
@@ -40,7 +44,7 @@ meets tree most deepest walk path = by walk.over
     by (Some over) = walk
     by None =
         cond (passes_limit tree most deepest walk.met path) (record { met = walk.met; over = Some path })
-        (record { met = walk.met ++ record { path = path; kind = kind_of (node_at tree path) } ∷ []; over = None })
+        (record { met = walk.met ++ met_at tree path ∷ []; over = None })
 
 -- the walk goes on over these paths, in order
 abbrev pub walk_on : Tree → ℕ → ℕ → Walk → List Path → Walk

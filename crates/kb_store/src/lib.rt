@@ -1,6 +1,7 @@
 //! What stands below the dkms root: the file `targets` of a build.
 #![tactic(auto)]
 
+mod chests;
 mod entries;
 mod links;
 mod notes;
@@ -17,4 +18,4 @@ pub use links::spot_of_link;
 pub use place::{Places, RelPath};
 pub use store::{Build, Chest, Installation, Store};
 pub use targets::{read_targets, write_targets};
-pub use walking::{LIMITS, Limits, Met, Skips, Walk, walk_below};
+pub use walking::{LIMITS, Limits, Met, Skips, Walk, walk_all, walk_below};

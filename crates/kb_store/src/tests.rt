@@ -1,4 +1,5 @@
 // The file `targets` at its edges.
+mod chests;
 mod walks;
 
 use crate::*;

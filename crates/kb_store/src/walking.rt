@@ -1,10 +1,10 @@
 // A walk: every entry below a directory, in the order of paths.
-ghost use Rattle.std.specs.Prelude.{◌≡◌, ◌||◌, ◌&&◌, nat_le, nat_eq, ◌+◌, ◌++◌, List, ℕ, Bool, true, length, IfOk, OnOk, IsTrue};
+ghost use Rattle.std.specs.Prelude.{◌≡◌, ◌<◌, ◌≤◌, ◌||◌, ◌&&◌, nat_le, nat_eq, ◌+◌, ◌++◌, List, ℕ, Bool, true, length, map, IfOk, IfSome, OnOk, IsTrue};
 ghost use Rattle.std.specs.Option.{ForSome};
 ghost use Rattle.kb_world.specs.Names.{is_name};
 ghost use Rattle.kb_world.specs.Tree.{node_at, is_dir};
 ghost use Rattle.kb_world.specs.State.{Looks};
-ghost use Rattle.kb_store.specs.Walking.{entries, entry_block, walk_on, walked, is_dir_kind};
+ghost use Rattle.kb_store.specs.Walking.{entries, entry_block, met_at, walk_on, walked, is_dir_kind};
 
 use kb_world::{Kind, Path, Sequence, Text, World, WorldError};
 use std::alloc::Global;
@@ -48,7 +48,24 @@ pub trait Skips {
     ghost deeper: { (it : Self) (path more : List (List ℕ)) → skips it path ≡ true → skips it (path ++ more) ≡ true };
 }
 
+// Limits that no walk passes, since memory holds fewer items than a number can count.
+const NO_LIMITS: Limits = Limits {
+    entries: usize::MAX,
+    depth: u64::MAX,
+};
+
 impl Walk {
+    // No walk meets as many entries as a number can count, or a path of more names.
+    fn is_countable(&self)
+        ensures met { length self.now.met < usize.MAX }
+        ensures over { IfSome self.now.over (λ far. length far ≤ u64.MAX) }
+    {
+        let _count = self.met.as_slice().len();
+        if let Some(far) = &self.over {
+            let _count = far.names().len();
+        }
+    }
+
     // Whether an entry of this kind passes a limit, where directories may stand so much deeper.
     fn is_passed(&self, kind: Kind, most: usize, depth: u64) -> bool
         ensures { result ≡ (nat_le most (length self.now.met) || nat_eq depth 0 && is_dir_kind kind) }
@@ -144,4 +161,21 @@ pub fn walk_below<W: World, S: Skips>(
         &mut walk,
     )?;
     Ok(walk)
+}
+
+/// Walks over every entry below a directory, in the order of paths, but for those that are skipped, however many there
+/// are and however deep.
+pub fn walk_all<W: World, S: Skips>(
+    alloc: Global,
+    world: &mut W,
+    skips: &S,
+    start: &Path,
+) -> Result<Sequence<Met>, WorldError>
+    requires { ForSome (W.state world.old).tree (λ tree. is_dir (node_at tree start.now) ≡ true) }
+    ensures met { IfOk result (λ met. ForSome (W.state world.old).tree (λ tree. met ≡ map (met_at tree) (entries tree (S.skips skips.now) start.now))) }
+    ensures same { Looks (W.state world.old) (W.state world.new) result }
+{
+    let walk = walk_below(alloc, world, skips, start, NO_LIMITS)?;
+    walk.is_countable();
+    Ok(walk.met)
 }

@@ -66,9 +66,9 @@ fn empty_world(alloc: Global) -> Result<MemoryWorld, AllocError> {
     MemoryWorld::new(alloc, roots, Vec::new(alloc))
 }
 
-fn text_of(alloc: Global, walk: &Walk) -> Result<String, AllocError> {
+fn text_of(alloc: Global, all: &[Met]) -> Result<String, AllocError> {
     let mut text = String::new(alloc);
-    for met in walk.met.as_slice() {
+    for met in all {
         let line = format!(in alloc; "{}\n", met.path)?;
         text.push_str(&line)?;
     }
@@ -81,9 +81,11 @@ fn expect_walk(rt: &impl Abort, alloc: Global, world: &mut MemoryWorld) -> Resul
         Some(Node::Dir) => {}
         _ => return Ok(()),
     }
-    let walk = walk_below(alloc, world, &roots, &roots.dkms)?;
+    let walk = walk_below(alloc, world, &roots, &roots.dkms, LIMITS)?;
     assert!(rt; walk.over.is_none());
-    assert_eq!(rt; text_of(alloc, &walk)?.as_str(), MET);
+    assert_eq!(rt; text_of(alloc, walk.met.as_slice())?.as_str(), MET);
+    let all = walk_all(alloc, world, &roots, &roots.dkms)?;
+    assert_eq!(rt; text_of(alloc, all.as_slice())?.as_str(), MET);
     Ok(())
 }
 

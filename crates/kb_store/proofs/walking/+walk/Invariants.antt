@@ -10,4 +10,4 @@ decreases-visit_entry g l = 2 * l.depth
 
 abbrev pub invariant-visit-loop-name : goal.invariant-visit-loop-name
 invariant-visit-loop-name g l =
-    HasVisited (g.W.World.state l.initial.world) (g.W.World.state l.world) (g.S.Skips.skips l.skips) l.directory l.depth l.initial.walk l.walk l.name-items l.name-index
+    HasVisited (g.W.World.state l.initial.world) (g.W.World.state l.world) (g.S.Skips.skips l.skips) l.directory l.most l.depth l.initial.walk l.walk l.name-items l.name-index

@@ -8,4 +8,4 @@ pub returns-clause-met : goal.returns-clause-met
 unfolding walked
 returns-clause-met g c tree told =
     c.in_ok-visit.ensures.met tree told
-    ∙ ap (λ (met : List Met). walk_on tree (length c.args.start.now + 64) (record { met = met; over = None }) (entries tree (g.S.Skips.skips c.args.skips.now) c.args.start.now)) c.new.ensures
+    ∙ ap (λ (met : List Met). walk_on tree c.args.limits.entries (length c.args.start.now + c.args.limits.depth) (record { met = met; over = None }) (entries tree (g.S.Skips.skips c.args.skips.now) c.args.start.now)) c.new.ensures
