@@ -1,6 +1,11 @@
 pub mod LinkLaws
+pub mod LookLaws
+pub mod NotedLaws
+pub mod NotingLaws
 pub mod OrderLaws
+pub mod PartLaws
 pub mod PlaceLaws
 pub mod TargetsLaws
+pub mod TellLaws
 pub mod VisitLaws
 pub mod WalkLaws

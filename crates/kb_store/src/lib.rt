@@ -4,6 +4,7 @@
 mod entries;
 mod links;
 mod notes;
+mod paths;
 mod place;
 mod private;
 mod store;
