@@ -2,12 +2,17 @@ pub mod ChestLaws
 pub mod FarLaws
 pub mod LimitLaws
 pub mod LinkLaws
+pub mod LookLaws
 pub mod MemberLaws
 pub mod NoteLaws
+pub mod NotedLaws
+pub mod NotingLaws
 pub mod OrderLaws
+pub mod PartLaws
 pub mod PlaceLaws
 pub mod PublicNotes
 pub mod ReadLaws
 pub mod TargetsLaws
+pub mod TellLaws
 pub mod VisitLaws
 pub mod WalkLaws

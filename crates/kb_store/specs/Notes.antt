@@ -1,15 +1,17 @@
 -- What each path below the dkms root tells of a store without damage, and which damaged paths it tells of. This
 -- project's own.
-use Rattle.std.specs.Prelude.{ℕ, cond, List, [], ◌∷◌, ◌++◌, length, drop, flat_map, filter_map, Option, Some, None, fold}
+use Rattle.std.specs.Prelude.{ℕ, cond, not, List, [], ◌∷◌, ◌++◌, length, drop, map, filter, flat_map, filter_map, Option, Some, None, is_some, fold}
 use Rattle.std.specs.Ordering.{is_lt}
 use Rattle.kb_world.specs.Path.{Path, path_cmp, is_under}
-use Rattle.kb_world.specs.Tree.{Tree}
+use Rattle.kb_world.specs.Tree.{Tree, node_at, is_file}
 use Rattle.kb_world.specs.Public.{is_private}
-use Rattle.kb_world.specs.Store.{added_at}
-use Rattle.kb_world.specs.Boxes.{places_at, kernel_link_path, linked_at}
-use Rattle.kb_world.specs.Damage.{least, harm_at}
+use Rattle.kb_world.specs.Store.{added_at, is_added, link_path}
+use Rattle.kb_world.specs.Boxes.{places_at, kernel_link_path, linked_at, targets_path, module_file}
+use Rattle.kb_world.specs.Damage.{least, harm_at, unless_sound}
 use Rattle.kb_world.specs.declared.roots.Roots.{Roots}
-use Rattle.kb_store.specs.Contents.{below_dkms, build_by, installation_by}
+use Rattle.kb_world.specs.declared.job.Key.{Key}
+use Rattle.kb_world.specs.declared.job.Spot.{Spot}
+use Rattle.kb_store.specs.Contents.{below_dkms, build_by, build_of, installation_by, installation_of}
 use Rattle.kb_store.specs.Walking.{entries}
 use Rattle.kb_store.specs.declared.store.Build.{Build}
 use Rattle.kb_store.specs.declared.store.Installation.{Installation}
@@ -74,3 +76,46 @@ entries_if roots tree (Some directory) = entries tree (is_private roots) directo
 -- the paths below the version that the path lies below
 abbrev pub version_entries : Roots → Tree → Path → List Path
 version_entries roots tree path = entries_if roots tree (version_above roots path)
+
+-- ---- by the kind of entry
+
+abbrev pub no_notes : Notes
+no_notes = record { added = []; builds = []; installed = []; hurt = None }
+
+-- these paths are damaged
+abbrev pub harmed : Notes → List Path → Notes
+harmed notes paths = record notes { hurt = first_of_two notes.hurt (least paths) }
+
+-- what stands at a version's link is noted
+abbrev pub source_noted : Roots → Tree → Notes → Key → Notes
+source_noted roots tree notes key = cond (is_added roots key tree) (record notes { added = notes.added ++ key ∷ [] }) (harmed notes (link_path roots key ∷ []))
+
+-- what stands at a spot's link is noted, where it says this version
+abbrev pub version_noted : Notes → Path → List ℕ → Spot → Option (List ℕ) → Notes
+version_noted notes path word spot None = harmed notes (path ∷ [])
+version_noted notes path word spot (Some version) = record notes { installed = notes.installed ++ installation_of word spot version ∷ [] }
+
+-- what stands at the path is noted, where that is the link of a spot
+abbrev pub link_noted : Roots → Tree → Notes → Path → List ℕ → Option Spot → Notes
+link_noted roots tree notes path word None = notes
+link_noted roots tree notes path word (Some spot) = version_noted notes path word spot (linked_at roots tree path word spot)
+
+-- the modules' files that are no files are noted
+abbrev pub files_noted : Roots → Tree → Notes → Key → Spot → List Path → Notes
+files_noted roots tree notes key spot places = harmed notes (filter (λ file. not (is_file (node_at tree file))) (map (module_file roots key spot) places))
+
+-- a file `targets` that has these places is noted, and the modules' files
+abbrev pub places_noted : Roots → Tree → Notes → Key → Spot → Option (List Path) → Notes
+places_noted roots tree notes key spot None = harmed notes (targets_path roots key spot ∷ [])
+places_noted roots tree notes key spot (Some places) = by (files_noted roots tree notes key spot places)
+  where
+    by : Notes → Notes
+    by marked = record marked { builds = marked.builds ++ build_of key spot places ∷ [] }
+
+-- a version's link is noted, where there is none
+abbrev pub absence_noted : Roots → Tree → Notes → Key → Notes
+absence_noted roots tree notes key = harmed notes (unless_sound (is_some (node_at tree (link_path roots key))) (link_path roots key))
+
+-- what stands at a build's `targets` is noted
+abbrev pub box_noted : Roots → Tree → Notes → Key → Spot → Notes
+box_noted roots tree notes key spot = places_noted roots tree (absence_noted roots tree notes key) key spot (places_at roots tree key spot)

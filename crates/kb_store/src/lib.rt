@@ -5,6 +5,7 @@ mod chests;
 mod entries;
 mod links;
 mod notes;
+mod paths;
 mod place;
 mod private;
 mod store;

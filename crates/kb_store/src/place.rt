@@ -107,7 +107,7 @@ pub fn is_place(names: &[&str]) -> bool
 }
 
 // The last name; none where there is no name.
-fn last_name(place: &RelPath) -> &str
+pub(crate) fn last_name(place: &RelPath) -> &str
     ensures { result.now ≡ rule.last_name place.now }
 {
     match place.names().last() {
