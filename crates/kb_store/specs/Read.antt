@@ -1,5 +1,5 @@
 -- What a reading of the store answers. This project's own.
-use Rattle.std.specs.Prelude.{cond, Option, Some, None, Result, Ok, Err}
+use Rattle.std.specs.Prelude.{◌≡◌, cond, List, [], ◌++◌, map, filter_map, Option, Some, None, Result, Ok, Err}
 use Rattle.std.specs.Ordering.{is_lt}
 use Rattle.kb_world.specs.Path.{Path, path_cmp}
 use Rattle.kb_world.specs.Tree.{Tree}
@@ -8,9 +8,14 @@ use Rattle.kb_world.specs.Damage.{hurt}
 use Rattle.kb_world.specs.declared.roots.Roots.{Roots}
 use Rattle.kb_world.specs.declared.refusal.Refusal.{Refusal}
 use Rattle.kb_world.specs.declared.refusal.Refusal.TheVariants as refusal
-use Rattle.kb_store.specs.Walking.{walked, LIMITS}
+use Rattle.kb_world.specs.Store.{added_at}
+use Rattle.kb_store.specs.Walking.{walked, LIMITS, entries, met_at}
+use Rattle.kb_store.specs.Notes.{notes_of, told_build, told_installation, version_entries}
 use Rattle.kb_store.specs.Contents.{store_of}
+use Rattle.kb_store.specs.declared.notes.Notes.{Notes}
+use Rattle.kb_store.specs.declared.read.Reading.{Reading}
 use Rattle.kb_store.specs.declared.store.Store.{Store}
+use Rattle.kb_store.specs.declared.walking.Met.{Met}
 
 -- the first path below the dkms root at which a walk passes a limit
 abbrev pub over : Roots → Tree → Option Path
@@ -34,3 +39,25 @@ unless (Some why) store = Err why
 -- the store of a public tree, or its refusal
 unfoldable pub read_of : Roots → Tree → Result Store Refusal
 read_of roots store = unless (store_refusal roots store) (store_of roots store)
+
+-- ---- what a reading is of
+
+-- the paths below the version that the walk ended in, where it ended at a limit
+abbrev pub entries_over : Roots → Tree → Option Path → List Path
+entries_over roots tree None = []
+entries_over roots tree (Some far) = version_entries roots tree far
+
+abbrev pub paths_met : List Met → List Path
+paths_met met = map (λ m. m.path) met
+
+-- The walk of the store, and the notes of what it met and of the version that it ended in.
+pub record IsReading (roots : Roots) (tree : Tree) (reading : Reading) : Type 0 where
+  pub walk : reading.walk ≡ walked LIMITS tree (is_private roots) roots.dkms
+  pub notes : reading.notes ≡ notes_of roots tree (paths_met reading.walk.met ++ entries_over roots tree reading.walk.over)
+
+-- Every entry, and the notes of it.
+pub record IsWholeReading (roots : Roots) (tree : Tree) (met : List Met) (notes : Notes) : Type 0 where
+  pub all : met ≡ map (met_at tree) (entries tree (is_private roots) roots.dkms)
+  pub added : notes.added ≡ filter_map (added_at roots tree) (paths_met met)
+  pub builds : notes.builds ≡ filter_map (told_build roots tree) (paths_met met)
+  pub installed : notes.installed ≡ filter_map (told_installation roots tree) (paths_met met)

@@ -8,6 +8,7 @@ mod notes;
 mod paths;
 mod place;
 mod private;
+mod read;
 mod store;
 mod targets;
 #[cfg(test)]

@@ -36,3 +36,22 @@ pub struct Store {
     installed: Sequence<Installation>,
     chests: Sequence<Chest>,
 }
+
+impl Store {
+    // The store with these parts.
+    pub(crate) fn of(
+        added: Sequence<Key>,
+        builds: Sequence<Build>,
+        installed: Sequence<Installation>,
+        chests: Sequence<Chest>,
+    ) -> Store
+        ensures { result ≡ record { added = added; builds = builds; installed = installed; chests = chests } }
+    {
+        Store {
+            added,
+            builds,
+            installed,
+            chests,
+        }
+    }
+}
