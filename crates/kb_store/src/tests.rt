@@ -1,4 +1,5 @@
 // The file `targets` at its edges.
+mod notes;
 mod walks;
 
 use crate::*;
