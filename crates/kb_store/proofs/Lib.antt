@@ -12,6 +12,7 @@ pub mod PartLaws
 pub mod PlaceLaws
 pub mod PublicNotes
 pub mod ReadLaws
+pub mod ReadingLaws
 pub mod TargetsLaws
 pub mod TellLaws
 pub mod VisitLaws

@@ -1,4 +1,5 @@
 // The store: what stands below the dkms root, read once.
+ghost use Rattle.std.specs.Prelude.{◌≡◌};
 
 use crate::place::Places;
 use kb_world::{Key, Sequence, Spot, Text};

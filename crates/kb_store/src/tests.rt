@@ -1,5 +1,6 @@
 // The file `targets` at its edges.
 mod chests;
+mod notes;
 mod walks;
 
 use crate::*;

@@ -1,0 +1,137 @@
+-- A reading of the store gives the store, or its refusal.
+use Rattle.std.proofs.Common.{◌≡◌, ℕ, List, [], ◌∷◌, ◌++◌, map, Option, Some, None, Result, Ok, Err, refl, sym, ap, ◌∙◌, subst}
+use Rattle.std.specs.Prelude.{filter_map, flat_map}
+use Rattle.std.proofs.lemmas.List.{append-nil}
+use Rattle.std.specs.FinMap.{keys}
+use Rattle.kb_world.specs.Path.{Path}
+use Rattle.kb_world.specs.Tree.{Tree}
+use Rattle.kb_world.specs.Public.{is_private, public_tree}
+use Rattle.kb_world.specs.Roots.{AreApart}
+use Rattle.kb_world.specs.Store.{added_at}
+use Rattle.kb_world.specs.Damage.{hurt, least, harm_at}
+use Rattle.kb_world.specs.declared.roots.Roots.{Roots}
+use Rattle.kb_world.specs.declared.job.Key.{Key}
+use Rattle.kb_world.specs.declared.refusal.Refusal.{Refusal}
+use Rattle.kb_store.specs.Contents.{build_at, installation_at, chest_at, store_of}
+use Rattle.kb_store.specs.Notes.{told_build, told_installation, notes_of, version_entries}
+use Rattle.kb_store.specs.Read.{first_refusal, over, store_refusal, unless, read_of, entries_over, paths_met, IsReading, IsWholeReading}
+use Rattle.kb_store.specs.Walking.{walked, LIMITS, entries, met_at}
+use Rattle.kb_store.specs.declared.notes.Notes.{Notes}
+use Rattle.kb_store.specs.declared.read.Reading.{Reading}
+use Rattle.kb_store.specs.declared.store.Build.{Build}
+use Rattle.kb_store.specs.declared.store.Installation.{Installation}
+use Rattle.kb_store.specs.declared.store.Chest.{Chest}
+use Rattle.kb_store.specs.declared.store.Store.{Store}
+use Rattle.kb_store.specs.declared.walking.Met.{Met}
+use Rattle.kb_store.specs.declared.walking.Walk.{Walk}
+use Rattle.kb_store.proofs.FarLaws.{far_harms}
+use Rattle.kb_store.proofs.LimitLaws.{met_all, met_before}
+use Rattle.kb_store.proofs.NoteLaws.{dkms_entries, added_told, builds_told, installations_told, chests_held, harms_told, told_builds_held, told_installations_held}
+
+-- the paths of entries are the entries
+pub paths_of_met : (tree : Tree) (paths : List Path) → paths_met (map (met_at tree) paths) ≡ paths
+paths_of_met tree [] = refl
+paths_of_met tree (path ∷ paths) = ap (λ rest. path ∷ rest) (paths_of_met tree paths)
+
+-- a whole reading of a store without damage is that store
+pub whole_is_store : (roots : Roots) → AreApart roots → (tree : Tree) → hurt roots tree ≡ None → (met : List Met) (notes : Notes) → IsWholeReading roots tree met notes
+    → (chests : List Chest) → chests ≡ filter_map (chest_at roots tree) (dkms_entries roots tree)
+    → record { added = notes.added; builds = notes.builds; installed = notes.installed; chests = chests } ≡ store_of roots tree
+unfolding store_of
+whole_is_store roots apart tree sound met notes is chests chests_are =
+    let paths : paths_met met ≡ dkms_entries roots tree = ap paths_met is.all ∙ paths_of_met tree (dkms_entries roots tree) in
+    let added_is : notes.added ≡ filter_map (added_at roots tree) (keys tree) = is.added ∙ ap (filter_map (added_at roots tree)) paths ∙ sym (added_told roots apart tree) in
+    let builds_are : notes.builds ≡ filter_map (build_at roots tree) (keys tree) =
+    is.builds ∙ ap (filter_map (told_build roots tree)) paths ∙ sym (builds_told roots apart tree) ∙ told_builds_held roots tree sound in
+    let installed_are : notes.installed ≡ filter_map (installation_at roots tree) (keys tree) =
+    is.installed ∙ ap (filter_map (told_installation roots tree)) paths ∙ sym (installations_told roots apart tree) ∙ told_installations_held roots tree sound in
+    let all_chests = chests_are ∙ sym (chests_held roots apart tree) in
+    ap (λ (added : List Key). record { added = added; builds = notes.builds; installed = notes.installed; chests = chests }) added_is
+    ∙ ap (λ (builds : List Build). record { added = filter_map (added_at roots tree) (keys tree); builds = builds; installed = notes.installed; chests = chests }) builds_are
+    ∙ ap (λ (installed : List Installation). record { added = filter_map (added_at roots tree) (keys tree); builds = filter_map (build_at roots tree) (keys tree); installed = installed; chests = chests }) installed_are
+    ∙ ap (λ (all : List Chest). record { added = filter_map (added_at roots tree) (keys tree); builds = filter_map (build_at roots tree) (keys tree); installed = filter_map (installation_at roots tree) (keys tree); chests = all }) all_chests
+
+-- ---- the refusal
+
+-- of a walk that met all
+refusal_of_all : (roots : Roots) → AreApart roots → (tree : Tree) (reading : Reading) → IsReading roots tree reading → reading.walk.over ≡ None
+    → first_refusal reading.notes.hurt reading.walk.over ≡ store_refusal roots tree
+refusal_of_all roots apart tree reading is none =
+    let walk_over : (walked LIMITS tree (is_private roots) roots.dkms).over ≡ None = sym (ap (λ (w : Walk). w.over) is.walk) ∙ none in
+    let met : reading.walk.met ≡ map (met_at tree) (dkms_entries roots tree) = ap (λ (w : Walk). w.met) is.walk ∙ met_all LIMITS tree (is_private roots) roots.dkms walk_over in
+    let paths : paths_met reading.walk.met ++ entries_over roots tree reading.walk.over ≡ dkms_entries roots tree =
+    ap (λ o. paths_met reading.walk.met ++ entries_over roots tree o) none ∙ append-nil (paths_met reading.walk.met) ∙ ap paths_met met ∙ paths_of_met tree (dkms_entries roots tree) in
+    let harm : reading.notes.hurt ≡ hurt roots tree =
+    ap (λ (n : Notes). n.hurt) is.notes ∙ ap (λ p. least (flat_map (harm_at roots tree) p)) paths ∙ harms_are roots apart tree in
+    ap (λ h. first_refusal h reading.walk.over) harm ∙ ap (λ (w : Walk). first_refusal (hurt roots tree) w.over) is.walk
+
+  where
+    harms_are : (roots : Roots) → AreApart roots → (tree : Tree) → least (flat_map (harm_at roots tree) (dkms_entries roots tree)) ≡ hurt roots tree
+    unfolding hurt
+    harms_are roots apart tree = ap least (sym (harms_told roots apart tree))
+
+-- of a walk that ended at a limit
+refusal_at_limit : (roots : Roots) → AreApart roots → (tree : Tree) (reading : Reading) (far : Path) → IsReading roots tree reading → reading.walk.over ≡ Some far
+    → first_refusal reading.notes.hurt reading.walk.over ≡ store_refusal roots tree
+refusal_at_limit roots apart tree reading far is found =
+    let walk_over : (walked LIMITS tree (is_private roots) roots.dkms).over ≡ Some far = sym (ap (λ (w : Walk). w.over) is.walk) ∙ found in
+    let front = met_before LIMITS tree (is_private roots) roots.dkms far walk_over in
+    let met : reading.walk.met ≡ map (met_at tree) front.before = ap (λ (w : Walk). w.met) is.walk ∙ front.met in
+    let paths : paths_met reading.walk.met ++ entries_over roots tree reading.walk.over ≡ front.before ++ version_entries roots tree far =
+    ap (λ o. paths_met reading.walk.met ++ entries_over roots tree o) found ∙ ap (λ p. p ++ version_entries roots tree far) (ap paths_met met ∙ paths_of_met tree front.before) in
+    let harm : reading.notes.hurt ≡ least (flat_map (harm_at roots tree) (front.before ++ version_entries roots tree far)) =
+    ap (λ (n : Notes). n.hurt) is.notes ∙ ap (λ p. least (flat_map (harm_at roots tree) p)) paths in
+    ap (λ o. first_refusal reading.notes.hurt o) found ∙ ap (λ h. first_refusal h (Some far)) harm
+    ∙ far_harms roots tree apart front.before far front.behind front.split ∙ ap (first_refusal (hurt roots tree)) (sym walk_over)
+
+pub refusal_is : (roots : Roots) → AreApart roots → (tree : Tree) (reading : Reading) → IsReading roots tree reading
+    → first_refusal reading.notes.hurt reading.walk.over ≡ store_refusal roots tree
+refusal_is roots apart tree reading is = by reading.walk.over refl
+  where
+    by : (o : Option Path) → reading.walk.over ≡ o → first_refusal reading.notes.hurt reading.walk.over ≡ store_refusal roots tree
+    by None e = refusal_of_all roots apart tree reading is e
+    by (Some far) e = refusal_at_limit roots apart tree reading far is e
+
+-- ---- the answer
+
+pub answer_refused : (roots : Roots) → AreApart roots → (tree : Tree) (reading : Reading) (why : Refusal) → IsReading roots tree reading
+    → first_refusal reading.notes.hurt reading.walk.over ≡ Some why → read_of roots tree ≡ Err why
+unfolding read_of
+answer_refused roots apart tree reading why is found = ap (λ due. unless due (store_of roots tree)) (sym (refusal_is roots apart tree reading is) ∙ found)
+
+pub answer_read : (roots : Roots) → AreApart roots → (tree : Tree) (reading : Reading) (store : Store) → IsReading roots tree reading
+    → first_refusal reading.notes.hurt reading.walk.over ≡ None → store ≡ store_of roots tree → read_of roots tree ≡ Ok store
+unfolding read_of
+answer_read roots apart tree reading store is none same = ap (λ due. unless due (store_of roots tree)) (sym (refusal_is roots apart tree reading is) ∙ none) ∙ ap Ok (sym same)
+
+-- no refusal is due where nothing is damaged and no limit passed
+unhurt : (harm far : Option Path) → first_refusal harm far ≡ None → harm ≡ None
+unhurt None far h = refl
+unhurt (Some path) None h = absurd (cc)
+unhurt (Some path) (Some far) h = absurd (cc)
+
+unpassed : (harm far : Option Path) → first_refusal harm far ≡ None → far ≡ None
+unpassed None None h = refl
+unpassed None (Some far) h = absurd (cc)
+unpassed (Some path) None h = refl
+unpassed (Some path) (Some far) h = absurd (cc)
+
+pub answer_sound : (roots : Roots) → AreApart roots → (tree : Tree) (reading : Reading) → IsReading roots tree reading
+    → first_refusal reading.notes.hurt reading.walk.over ≡ None → hurt roots tree ≡ None
+answer_sound roots apart tree reading is none = unhurt (hurt roots tree) (over roots tree) (sym (refusal_is roots apart tree reading is) ∙ none)
+
+-- and the reading is of all
+pub answer_whole : (roots : Roots) (tree : Tree) (reading : Reading) → IsReading roots tree reading
+    → first_refusal reading.notes.hurt reading.walk.over ≡ None → IsWholeReading roots tree reading.walk.met reading.notes
+answer_whole roots tree reading is none =
+    let open_end : reading.walk.over ≡ None = unpassed reading.notes.hurt reading.walk.over none in
+    let walk_over : (walked LIMITS tree (is_private roots) roots.dkms).over ≡ None = sym (ap (λ (w : Walk). w.over) is.walk) ∙ open_end in
+    let paths : paths_met reading.walk.met ++ entries_over roots tree reading.walk.over ≡ paths_met reading.walk.met =
+    ap (λ o. paths_met reading.walk.met ++ entries_over roots tree o) open_end ∙ append-nil (paths_met reading.walk.met) in
+    let notes : reading.notes ≡ notes_of roots tree (paths_met reading.walk.met) = is.notes ∙ ap (notes_of roots tree) paths in
+    record {
+      all = ap (λ (w : Walk). w.met) is.walk ∙ met_all LIMITS tree (is_private roots) roots.dkms walk_over;
+      added = ap (λ (n : Notes). n.added) notes;
+      builds = ap (λ (n : Notes). n.builds) notes;
+      installed = ap (λ (n : Notes). n.installed) notes;
+    }
