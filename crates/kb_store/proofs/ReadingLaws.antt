@@ -1,19 +1,31 @@
 -- A reading of the store gives the store, or its refusal.
-use Rattle.std.proofs.Common.{◌≡◌, ℕ, List, [], ◌∷◌, ◌++◌, map, Option, Some, None, Result, Ok, Err, refl, sym, ap, ◌∙◌, subst}
-use Rattle.std.specs.Prelude.{filter_map, flat_map}
+use Rattle.std.proofs.Common.{◌≡◌, ℕ, Bool, true, false, cond, ◌&&◌, not, List, [], ◌∷◌, ◌++◌, length, drop, map, Option, Some, None, is_some, Result, Ok, Err, refl, sym, ap, ◌∙◌, subst, append_assoc}
+use Rattle.std.specs.Prelude.{filter_map, flat_map, OnOk, IsErrOf}
+use Rattle.std.specs.List.{list_any}
+use Rattle.std.proofs.lemmas.List.Sums.{fold-append}
 use Rattle.std.proofs.lemmas.List.{append-nil}
 use Rattle.std.specs.FinMap.{keys}
-use Rattle.kb_world.specs.Path.{Path}
-use Rattle.kb_world.specs.Tree.{Tree}
+use Rattle.kb_world.specs.Path.{Path, is_under}
+use Rattle.kb_world.specs.Tree.{Tree, node_at, is_dir, IsFormed}
+use Rattle.kb_world.specs.TreeLaws.{same_path}
+use Rattle.kb_world.specs.Read.{IsRead}
+use Rattle.kb_world.specs.State.{State, Looks}
+use Rattle.kb_world.specs.Does.{Gives, IsAnswer}
+use Rattle.kb_world.specs.declared.stop.Stop.{Stop}
+use Rattle.kb_world.specs.declared.stop.Stop.TheVariants.{Refused, Fault, NoMemory}
+use Rattle.kb_world.specs.declared.world.WorldError.{WorldError}
+use Rattle.kb_world.specs.declared.world.WorldError.TheVariants.{Failed}
+use Rattle.kb_world.proofs.DamageLaws.{under-split}
+use Rattle.kb_world.proofs.DoesLaws.{cause_then, ran_none_then}
 use Rattle.kb_world.specs.Public.{is_private, public_tree}
-use Rattle.kb_world.specs.Roots.{AreApart}
+use Rattle.kb_world.specs.Roots.{AreApart, is_below}
 use Rattle.kb_world.specs.Store.{added_at}
 use Rattle.kb_world.specs.Damage.{hurt, least, harm_at}
 use Rattle.kb_world.specs.declared.roots.Roots.{Roots}
 use Rattle.kb_world.specs.declared.job.Key.{Key}
 use Rattle.kb_world.specs.declared.refusal.Refusal.{Refusal}
 use Rattle.kb_store.specs.Contents.{build_at, installation_at, chest_at, store_of}
-use Rattle.kb_store.specs.Notes.{told_build, told_installation, notes_of, version_entries}
+use Rattle.kb_store.specs.Notes.{told_build, told_installation, noted, noted_all, no_notes, notes_of, version_above, version_within, version_entries}
 use Rattle.kb_store.specs.Read.{first_refusal, over, store_refusal, unless, read_of, entries_over, paths_met, IsReading, IsWholeReading}
 use Rattle.kb_store.specs.Walking.{walked, LIMITS, entries, met_at}
 use Rattle.kb_store.specs.declared.notes.Notes.{Notes}
@@ -26,6 +38,10 @@ use Rattle.kb_store.specs.declared.walking.Met.{Met}
 use Rattle.kb_store.specs.declared.walking.Walk.{Walk}
 use Rattle.kb_store.proofs.FarLaws.{far_harms}
 use Rattle.kb_store.proofs.LimitLaws.{met_all, met_before}
+use Rattle.kb_store.proofs.MemberLaws.{in_entries}
+use Rattle.kb_store.proofs.OrderLaws.{is_in, in_front, in_more}
+use Rattle.kb_store.proofs.TellLaws.{noted_all_is}
+use Rattle.kb_store.proofs.WalkLaws.{dir_above, standing}
 use Rattle.kb_store.proofs.NoteLaws.{dkms_entries, added_told, builds_told, installations_told, chests_held, harms_told, told_builds_held, told_installations_held}
 
 -- the paths of entries are the entries
@@ -53,6 +69,11 @@ whole_is_store roots apart tree sound met notes is chests chests_are =
 
 -- ---- the refusal
 
+-- the damage that the entries tell of is that of the tree
+harms_are : (roots : Roots) → AreApart roots → (tree : Tree) → least (flat_map (harm_at roots tree) (dkms_entries roots tree)) ≡ hurt roots tree
+unfolding hurt
+harms_are roots apart tree = ap least (sym (harms_told roots apart tree))
+
 -- of a walk that met all
 refusal_of_all : (roots : Roots) → AreApart roots → (tree : Tree) (reading : Reading) → IsReading roots tree reading → reading.walk.over ≡ None
     → first_refusal reading.notes.hurt reading.walk.over ≡ store_refusal roots tree
@@ -64,11 +85,6 @@ refusal_of_all roots apart tree reading is none =
     let harm : reading.notes.hurt ≡ hurt roots tree =
     ap (λ (n : Notes). n.hurt) is.notes ∙ ap (λ p. least (flat_map (harm_at roots tree) p)) paths ∙ harms_are roots apart tree in
     ap (λ h. first_refusal h reading.walk.over) harm ∙ ap (λ (w : Walk). first_refusal (hurt roots tree) w.over) is.walk
-
-  where
-    harms_are : (roots : Roots) → AreApart roots → (tree : Tree) → least (flat_map (harm_at roots tree) (dkms_entries roots tree)) ≡ hurt roots tree
-    unfolding hurt
-    harms_are roots apart tree = ap least (sym (harms_told roots apart tree))
 
 -- of a walk that ended at a limit
 refusal_at_limit : (roots : Roots) → AreApart roots → (tree : Tree) (reading : Reading) (far : Path) → IsReading roots tree reading → reading.walk.over ≡ Some far
@@ -135,3 +151,91 @@ answer_whole roots tree reading is none =
       builds = ap (λ (n : Notes). n.builds) notes;
       installed = ap (λ (n : Notes). n.installed) notes;
     }
+
+-- ---- how a reading is put together
+
+-- the names before the last two of a path that lies below a version's directory
+pub record IsBelowVersion (directory path : Path) : Type 0 where
+  pub name : List ℕ
+  pub behind : Path
+  pub split : path ≡ directory ++ name ∷ behind
+
+pub version_split : (roots : Roots) (path directory : Path) → version_above roots path ≡ Some directory → IsBelowVersion directory path
+version_split roots path directory above = by (is_under path roots.dkms) refl
+  where
+    within : (names : Path) → path ≡ roots.dkms ++ names → version_within roots names ≡ Some directory → IsBelowVersion directory path
+    within [] is e = absurd (cc)
+    within (word ∷ []) is e = absurd (cc)
+    within (word ∷ version ∷ []) is e = absurd (cc)
+    within (word ∷ version ∷ name ∷ behind) is e =
+        let same : roots.dkms ++ word ∷ version ∷ [] ≡ directory = cc in
+        record { name = name; behind = behind; split = is ∙ sym (append_assoc roots.dkms (word ∷ version ∷ []) (name ∷ behind)) ∙ ap (λ d. d ++ name ∷ behind) same }
+
+    by : (b : Bool) → is_under path roots.dkms ≡ b → IsBelowVersion directory path
+    by true e =
+        within (drop (length roots.dkms) path) (under-split path roots.dkms e)
+        (sym (ap (λ b. cond b (version_within roots (drop (length roots.dkms) path)) None) e) ∙ above)
+    by false e = let impossible : None ≡ Some directory = sym (ap (λ b. cond b (version_within roots (drop (length roots.dkms) path)) None) e) ∙ above in absurd (cc)
+
+-- a version's directory is one, where anything stands below it
+pub version_is_dir : (roots : Roots) (tree : Tree) (path directory : Path) → IsFormed tree → version_above roots path ≡ Some directory → is_some (node_at tree path) ≡ true
+    → is_dir (node_at tree directory) ≡ true
+version_is_dir roots tree path directory formed above stands =
+    let is = version_split roots path directory above in
+    dir_above tree formed directory is.name is.behind (ap (λ p. is_some (node_at tree p)) (sym is.split) ∙ stands)
+
+-- something stands where a walk ended
+pub over_stands : (roots : Roots) (tree : Tree) (walk : Walk) (far : Path) → walk ≡ walked LIMITS tree (is_private roots) roots.dkms → walk.over ≡ Some far
+    → is_some (node_at tree far) ≡ true
+over_stands roots tree walk far is found =
+    let front = met_before LIMITS tree (is_private roots) roots.dkms far (sym (ap (λ (w : Walk). w.over) is) ∙ found) in
+    let there : is_in far (dkms_entries roots tree) = subst (is_in far) (sym front.split) (among front.before front.behind) in
+    standing tree far ∙ third (not (is_private roots far)) (is_below far roots.dkms) (list_any (same_path far) (keys tree)) (sym (in_entries tree (is_private roots) roots.dkms far) ∙ there)
+  where
+    among : (before behind : List Path) → is_in far (before ++ far ∷ behind)
+    among [] behind = in_front far behind
+    among (path ∷ before) behind = in_more far path (before ++ far ∷ behind) (among before behind)
+
+    third : (a b c : Bool) → (a && (b && c)) ≡ true → c ≡ true
+    third true true c h = h
+    third true false c h = absurd (cc)
+    third false b c h = absurd (cc)
+
+-- a call is over with this, since it is with that
+pub on_ok : {A E P Q : Type 0} (result : Result A E) → OnOk result P → (P → Q) → OnOk result Q
+on_ok (Ok value) p leads = leads p
+on_ok (Err error) p leads = tt
+
+-- notes of some paths, and then of others
+pub noted_more : (roots : Roots) (tree : Tree) (paths others : List Path) → noted_all roots tree (noted_all roots tree no_notes paths) others ≡ notes_of roots tree (paths ++ others)
+noted_more roots tree paths others = sym (fold-append (noted roots tree) no_notes paths others) ∙ noted_all_is roots tree (paths ++ others)
+
+-- an answer of a reader is an answer of a call that reads
+pub read_answers : {A : Type 0} (result : Result A Stop) (right : Result A Refusal) → IsRead result right → IsAnswer result right
+read_answers (Ok value) right is = is
+read_answers (Err (Refused why)) right is = is
+read_answers (Err Fault) right is = absurd is
+read_answers (Err NoMemory) right is = tt
+
+-- a call that only looked gives what was read of the tree
+pub gives_read : {A B : Type 0} (right : Tree → Result A Refusal) (old new : State) (looked : Result B WorldError) (result : Result A Stop)
+    → Looks old new looked → ((tree : Tree) → old.tree ≡ Some tree → IsAnswer result (right tree)) → (IsErrOf result Fault → ⊥) → Gives right old new result
+gives_read right old new looked result looks answers never = record {
+  answers = answers;
+  tree = looks.tree;
+  ran_none = looks.ran_none;
+  cause = record {
+    later = looks.cause.later;
+    rose = λ failed. absurd (never failed);
+    steady = looks.cause.steady;
+    never = λ is failed. never failed;
+  };
+}
+
+-- two calls that only looked
+pub looks_twice : {A B : Type 0} (old mid new : State) (first : Result A WorldError) (second : Result B WorldError) → Looks old mid first → Looks mid new second → Looks old new second
+looks_twice old mid new first second a b = record {
+  tree = b.tree ∙ a.tree;
+  ran_none = ran_none_then old mid new a.ran_none b.ran_none;
+  cause = cause_then Failed old mid new first second a.cause b.cause;
+}

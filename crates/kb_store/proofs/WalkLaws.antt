@@ -139,7 +139,7 @@ module _ (tree : Tree) (formed : IsFormed tree) where
       let up = prefix (child p name) rest (ap (λ q. is_some (node_at tree q)) (append_assoc p (name ∷ []) rest) ∙ h) in
       dir_stands (node_at tree p) (ap (λ q. is_dir (node_at tree q)) (sym (parent-child p name)) ∙ formed (child p name) up)
 
-  dir_above : (p : Path) (name : List ℕ) (rest : Path) → is_some (node_at tree (p ++ name ∷ rest)) ≡ true → is_dir (node_at tree p) ≡ true
+  pub dir_above : (p : Path) (name : List ℕ) (rest : Path) → is_some (node_at tree (p ++ name ∷ rest)) ≡ true → is_dir (node_at tree p) ≡ true
   dir_above p name rest h =
       let up = prefix (child p name) rest (ap (λ q. is_some (node_at tree q)) (append_assoc p (name ∷ []) rest) ∙ h) in
       ap (λ q. is_dir (node_at tree q)) (sym (parent-child p name)) ∙ formed (child p name) up

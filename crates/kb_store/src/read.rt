@@ -116,7 +116,8 @@ fn store_from(alloc: Global, roots: &Roots, notes: Notes, met: &[Met]) -> Result
 // What the reading says of the store.
 fn answer(alloc: Global, roots: &Roots, reading: Reading) -> Result<Store, Stop>
     requires { AreApart roots.now }
-    ensures { (tree : Tree) → IsReading roots.now tree reading → IsRead result (read_of roots.now tree) }
+    ensures read { (tree : Tree) → IsReading roots.now tree reading → IsRead result (read_of roots.now tree) }
+    ensures faultless { IsErrOf result Stop.Fault → ⊥ }
 {
     let Reading { walk, mut notes } = reading;
     match first_refusal(notes.hurt.take(), walk.over) {
