@@ -1,4 +1,5 @@
 pub mod ChestLaws
+pub mod ClaimLaws
 pub mod FarLaws
 pub mod LimitLaws
 pub mod LinkLaws

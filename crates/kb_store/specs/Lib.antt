@@ -1,4 +1,6 @@
+pub mod Accessors
 pub mod Chests
+pub mod Claims
 pub mod Contents
 pub mod Notes
 pub mod PrivateLaws

@@ -18,6 +18,7 @@ mod walking;
 pub use entries::{link_at, places_at};
 pub use links::spot_of_link;
 pub use place::{Places, RelPath};
-pub use store::{Build, Chest, Installation, Store};
+pub use private::walk_store;
+pub use store::{Build, Chest, Claim, Installation, Store};
 pub use targets::{read_targets, write_targets};
 pub use walking::{LIMITS, Limits, Met, Skips, Walk, walk_all, walk_below};

@@ -106,8 +106,8 @@ pub fn is_place(names: &[&str]) -> bool
     }
 }
 
-// The last name; none where there is no name.
-pub(crate) fn last_name(place: &RelPath) -> &str
+/// The last name; none where there is no name.
+pub fn last_name(place: &RelPath) -> &str
     ensures { result.now ≡ rule.last_name place.now }
 {
     match place.names().last() {

@@ -1,7 +1,11 @@
 // The store: what stands below the dkms root, read once.
 ghost use Rattle.std.specs.Prelude.{◌≡◌};
+ghost use Rattle.std.specs.Option.{option_copied};
+ghost use Rattle.std.specs.Ordering.{is_lt};
+ghost use Rattle.kb_store.specs.Accessors as part;
+ghost use Rattle.kb_store.specs.Claims.{lesser};
 
-use crate::place::Places;
+use crate::place::{Places, RelPath, last_name};
 use kb_world::{Key, Sequence, Spot, Text};
 
 /// A build of an added version: its modules' places below the kernel's directory, in the order of its conf.
@@ -38,6 +42,86 @@ pub struct Store {
     chests: Sequence<Chest>,
 }
 
+/// A place at which an installed module has put a file, and the module.
+#[derive(Clone, Copy, Debug)]
+pub struct Claim<'a> {
+    pub path: &'a RelPath,
+    pub module: &'a Text,
+}
+
+fn is_same_spot(a: &Spot, b: &Spot) -> bool
+    ensures { result ≡ part.same_spot a.now b.now }
+{
+    a.kernel.as_str() == b.kernel.as_str() && a.arch.as_str() == b.arch.as_str()
+}
+
+fn is_installation(installation: &Installation, module: &str, spot: &Spot) -> bool
+    ensures { result ≡ part.is_installation «module».now spot.now installation.now }
+{
+    installation.module.as_str() == module && is_same_spot(&installation.spot, spot)
+}
+
+fn is_chest(chest: &Chest, module: &str, spot: &Spot) -> bool
+    ensures { result ≡ part.is_chest «module».now spot.now chest.now }
+{
+    chest.module.as_str() == module && is_same_spot(&chest.spot, spot)
+}
+
+// Whether the build is that of the installed version.
+fn is_installed_build(build: &Build, installation: &Installation) -> bool
+    ensures { result ≡ part.is_build_of installation.now build.now }
+{
+    build.key.module.as_str() == installation.module.as_str()
+        && build.key.version.as_str() == installation.version.as_str()
+        && is_same_spot(&build.spot, &installation.spot)
+}
+
+// Whether it is an installation for the kernel, but not of this module for this architecture.
+fn is_other(installation: &Installation, kernel: &str, module: &str, arch: &str) -> bool
+    ensures { result ≡ part.is_other kernel.now «module».now arch.now installation.now }
+{
+    installation.spot.kernel.as_str() == kernel
+        && !(installation.module.as_str() == module && installation.spot.arch.as_str() == arch)
+}
+
+fn is_less(a: &Claim, b: &Claim) -> bool
+    ensures { result ≡ is_lt (part.claim_cmp (part.told_claim a.now) (part.told_claim b.now)) }
+{
+    a.path
+        .names()
+        .cmp(b.path.names())
+        .then(a.module.cmp(b.module))
+        .is_lt()
+}
+
+// The lesser of two claims.
+fn lesser_of<'a>(a: Option<Claim<'a>>, b: Option<Claim<'a>>) -> Option<Claim<'a>>
+    ensures { part.told result ≡ lesser (part.told a.entry) (part.told b.entry) }
+{
+    match (a, b) {
+        (Some(a), Some(b)) => { if is_less(&b, &a) { Some(b) } else { Some(a) } }
+        (Some(a), None) => Some(a),
+        (None, b) => b,
+    }
+}
+
+// The least claim of the module to a place with this last name.
+fn least_claim<'a>(places: &'a [RelPath], file: &str, module: &'a Text) -> Option<Claim<'a>>
+    ensures { part.told result ≡ part.least_claim (part.claims_at file.now «module».now places.now) }
+{
+    let mut least = None;
+    for place in places {
+        if last_name(place) == file {
+            let claim = Claim {
+                path: place,
+                module,
+            };
+            least = lesser_of(least, Some(claim));
+        }
+    }
+    least
+}
+
 impl Store {
     // The store with these parts.
     pub(crate) fn of(
@@ -54,5 +138,70 @@ impl Store {
             installed,
             chests,
         }
+    }
+
+    /// The added packages.
+    pub fn added(&self) -> &[Key]
+        ensures { result.now ≡ part.added_in self.now }
+    {
+        self.added.as_slice()
+    }
+
+    /// The builds of added versions that have all their files.
+    pub fn builds(&self) -> &[Build]
+        ensures { result.now ≡ part.builds_in self.now }
+    {
+        self.builds.as_slice()
+    }
+
+    /// The version of the module that is installed for the spot.
+    pub fn installed(&self, module: &str, spot: &Spot) -> Option<&Text>
+        ensures { option_copied result ≡ part.installed_in self.now «module».now spot.now }
+    {
+        for installation in self.installed.as_slice() {
+            if is_installation(installation, module, spot) {
+                return Some(&installation.version);
+            }
+        }
+        None
+    }
+
+    /// The files that the module displaced for the spot.
+    pub fn kept(&self, module: &str, spot: &Spot) -> &[RelPath]
+        ensures { result.now ≡ part.kept_in self.now «module».now spot.now }
+    {
+        for chest in self.chests.as_slice() {
+            if is_chest(chest, module, spot) {
+                return chest.files.as_slice();
+            }
+        }
+        &[]
+    }
+
+    // The places of the build that is installed.
+    fn places(&self, installation: &Installation) -> &[RelPath]
+        ensures { result.now ≡ part.places_of self.now installation.now }
+    {
+        for build in self.builds.as_slice() {
+            if is_installed_build(build, installation) {
+                return build.targets.as_slice();
+            }
+        }
+        &[]
+    }
+
+    /// Who else claims a file of this name for the kernel: the least claim of an installation that isn't of this module
+    /// for this architecture.
+    pub fn claimant(&self, kernel: &str, file: &str, module: &str, arch: &str) -> Option<Claim<'_>>
+        ensures { part.told result ≡ part.claimant_in self.now kernel.now file.now «module».now arch.now }
+    {
+        let mut least = None;
+        for installation in self.installed.as_slice() {
+            if is_other(installation, kernel, module, arch) {
+                let places = self.places(installation);
+                least = lesser_of(least, least_claim(places, file, &installation.module));
+            }
+        }
+        least
     }
 }
