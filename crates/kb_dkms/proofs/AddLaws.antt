@@ -158,3 +158,10 @@ source_stays roots apart key tree =
     outside path under same =
         let beside = elsewhere (source_path roots key) roots.src roots.dkms (apart-back roots.dkms roots.src (written_apart roots apart).dkms_src) (under-append roots.src _) in
         let impossible : true ≡ false = sym under ∙ ap (λ p. is_under p roots.dkms) (sym same) ∙ beside in cc
+
+pub dir_stays : (roots : Roots) → AreApart roots → (key : Key) → (places : Places) → places ≡ places_of roots key → (dir : Path) → dir ≡ places.source → (tree : Tree)
+    → is_dir (node_at tree dir) ≡ true → is_dir (node_at (place_step places tree) dir) ≡ true
+dir_stays roots apart key places are dir at tree stands =
+    let is : dir ≡ source_path roots key = at ∙ ap (λ (p : Places). p.source) are in
+    ap (λ (p : Places). is_dir (node_at (place_step p tree) dir)) are ∙ ap (λ q. is_dir (node_at (place_step (places_of roots key) tree) q)) is ∙ ap is_dir (source_stays roots apart key tree)
+    ∙ ap (λ q. is_dir (node_at tree q)) (sym is) ∙ stands

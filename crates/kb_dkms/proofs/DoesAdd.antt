@@ -1,7 +1,11 @@
 -- `dkms add` does what its definition says, part by part.
-use Rattle.std.proofs.Common.{◌≡◌, ℕ, Bool, true, false, cond, List, ◌++◌, Option, Some, None, is_some, IsTrue, refl, sym, ap, ◌∙◌, subst}
-use Rattle.std.specs.Prelude.{Result, Ok, Err, option_map}
+use Rattle.std.proofs.Common.{◌≡◌, ℕ, ◌+◌, ◌<◌, Bool, true, false, cond, List, [], ◌∷◌, ◌++◌, ◌&&◌, not, length, take, get_or, Option, Some, None, is_some, refl, sym, ap, ◌∙◌, subst, append_assoc}
+use Rattle.std.proofs.lemmas.List.{take_more, append-nil}
+use Rattle.std.proofs.lemmas.Grind.{flat_map-append}
+use Rattle.std.specs.Prelude.{Result, Ok, Err, codes, option_map, bytes_eq}
 use Rattle.std.specs.Option.{ForSome, option_or}
+use Rattle.std.specs.Cmp.{first_so}
+use Rattle.kb_world.specs.Names.{is_name, is_word, is_kernel, is_arch}
 use Rattle.kb_world.specs.Path.{Path}
 use Rattle.kb_world.specs.Tree.{Tree, node_at, is_dir}
 use Rattle.kb_world.specs.Script.{Script}
@@ -23,6 +27,7 @@ use Rattle.kb_world.specs.declared.tree.Node.{Node}
 use Rattle.kb_world.specs.declared.stop.Stop.{Stop}
 use Rattle.kb_world.specs.declared.stop.Stop.TheVariants.{Refused, Fault, NoMemory}
 use Rattle.kb_world.proofs.DoesLaws.{does_refused, does_passed, does_transaction}
+use Rattle.kb_world.proofs.NameLaws.{word-is_name}
 use Rattle.kb_world.proofs.StepLaws.{parent-child}
 use Rattle.kb_world.proofs.ThenLaws.{does_then, does_unread, does_read, does_warn}
 use Rattle.kb_conf.specs.declared.conf.Conf.{Conf}
@@ -30,9 +35,17 @@ use Rattle.kb_conf.specs.declared.given.Given.{Given}
 use Rattle.kb_conf.specs.Load.{conf_path, no_conf, matched, after, loaded_conf}
 use Rattle.kb_dkms.specs.declared.places.Places.{Places}
 use Rattle.kb_dkms.specs.Add.{add, add_with, add_and_run, already_added, source_conf, unused_lines, blocked, added_line}
+use Rattle.kb_dkms.specs.Host.{is_kernel_if_any, keeps_rules}
 use Rattle.kb_dkms.specs.Places.{places_of, standing, in_the_way, place_blocked, place_step, IsNested, IsFree, CanPlace}
-use Rattle.kb_dkms.specs.Scripts.{host_given, run_script}
+use Rattle.kb_dkms.specs.Scripts.{host_given, warning_line, run_script}
 use Rattle.kb_dkms.proofs.AddLaws.{standing_shown, standing_is_added, conf_shown, blocked_shown, step_shown, step_keeps_foreign}
+
+-- the kernel of a host that keeps its rules can name an entry of a directory
+pub kernel_named : (host : Host) → keeps_rules host ≡ true → (kernel : List ℕ) → host.kernel ≡ Some kernel → is_name kernel ≡ true
+kernel_named host good kernel is =
+    let kept : is_kernel kernel ≡ true = sym (ap is_kernel_if_any is) ∙ first_so (is_kernel_if_any host.kernel) (is_arch host.arch) good in
+    let marked = first_so (is_word kernel && not (bytes_eq kernel (codes "build"))) (not (bytes_eq kernel (codes "source"))) kept in
+    word-is_name kernel (first_so (is_word kernel) (not (bytes_eq kernel (codes "build"))) marked)
 
 -- ---- when the link can be made
 
@@ -95,21 +108,33 @@ does_failed roots action change old new before after NoMemory t = record { answe
 
 -- the link stands, and then the script is run
 pub added_and_ran : (host : Host) → AreApart host.roots → (key : Key) → is_key key ≡ true → (conf : Conf) (given : Given) → given ≡ host_given host → (places : Places) → places ≡ places_of host.roots key
-    → (which : List ℕ) (old mid new : State) (before between after : Report) (result : Result (Unit {0}) Stop) → Transforms (place_step places) {T = Unit {0}} old mid (Ok tt)
-    → between.out ≡ before.out ++ added_line key → between.err ≡ before.err
-    → Does host.roots (run_script host.roots mid.script given key which conf.scripts.post_add) mid new between after result
-    → Does host.roots (transaction (add_step host.roots key) (added_line key) then run_script host.roots old.script (host_given host) key which conf.scripts.post_add) old new before after result
-added_and_ran host apart key good conf given is places are which old mid new before between after result t out err d =
+    → (asked : Option (List ℕ)) → asked ≡ conf.scripts.post_add → (old mid new : State) (before between after : Report) (result : Result (Unit {0}) Stop) → Transforms (place_step places) {T = Unit {0}} old mid (Ok tt)
+    → (line : List ℕ) → line ≡ added_line key → between.out ≡ before.out ++ line → between.err ≡ before.err
+    → Does host.roots (run_script host.roots mid.script given key (codes "POST_ADD") asked) mid new between after result
+    → Does host.roots (add_and_run host old.script key conf) old new before after result
+added_and_ran host apart key good conf given is places are asked for old mid new before between after result t line so out err d =
     let roots = host.roots in
-    let P : Script → Type 0 = λ s. Does roots (run_script roots s given key which conf.scripts.post_add) mid new between after result in
-    let Q : Given → Type 0 = λ g. Does roots (run_script roots old.script g key which conf.scripts.post_add) mid new between after result in
+    let which = codes "POST_ADD" in
+    let P : Script → Type 0 = λ s. Does roots (run_script roots s given key which asked) mid new between after result in
+    let Q : Given → Type 0 = λ g. Does roots (run_script roots old.script g key which asked) mid new between after result in
+    let R : Option (List ℕ) → Type 0 = λ a. Does roots (run_script roots old.script (host_given host) key which a) mid new between after result in
     does_then roots (transaction (add_step roots key) (added_line key)) (run_script roots old.script (host_given host) key which conf.scripts.post_add) old mid new before between after result
     (does_transaction roots (place_step places) (add_step roots key) (added_line key) old mid before between (Ok tt)
     (λ tree. ap (λ (p : Places). public_tree roots (place_step p tree)) are ∙ step_shown roots apart key good tree)
-    (λ tree. ap (λ (p : Places). foreign_tree roots (place_step p tree)) are ∙ step_keeps_foreign roots apart key good tree) t out err)
-    (subst Q is (subst P t.ran_none.lasts.script d))
+    (λ tree. ap (λ (p : Places). foreign_tree roots (place_step p tree)) are ∙ step_keeps_foreign roots apart key good tree) t (out ∙ ap (λ text. before.out ++ text) so) err)
+    (subst R for (subst Q is (subst P t.ran_none.lasts.script d)))
 
 -- ---- the warnings, and what is in the way
+
+-- one name more is warned of
+pub one_more : (names : List (List ℕ)) (i : ℕ) (d name before err more line : List ℕ) → i < length names → name ≡ get_or names i d → err ≡ before ++ unused_lines (take i names)
+    → line ≡ codes "dkms.conf: " ++ name ++ codes " is not used" → more ≡ err ++ warning_line line → more ≡ before ++ unused_lines (take (i + 1) names)
+one_more names i d name before err more line lt named so_far is pushed =
+    let last = get_or names i d in
+    let joined : unused_lines (take (i + 1) names) ≡ unused_lines (take i names) ++ unused_lines (last ∷ []) =
+    ap unused_lines (take_more names i d lt) ∙ flat_map-append (λ n. warning_line (codes "dkms.conf: " ++ n ++ codes " is not used")) (take i names) (last ∷ []) in
+    let told : warning_line line ≡ unused_lines (last ∷ []) = ap warning_line is ∙ ap (λ n. warning_line (codes "dkms.conf: " ++ n ++ codes " is not used")) named ∙ sym (append-nil _) in
+    pushed ∙ ap (λ t. err ++ t) told ∙ ap (λ t. t ++ unused_lines (last ∷ [])) so_far ∙ append_assoc before (unused_lines (take i names)) (unused_lines (last ∷ [])) ∙ ap (λ t. before ++ t) (sym joined)
 
 -- what is in the way is that of the public tree
 read_blocked : (roots : Roots) → AreApart roots → (key : Key) → is_key key ≡ true → (places : Places) → places ≡ places_of roots key → (tree : Tree)
@@ -117,23 +142,25 @@ read_blocked : (roots : Roots) → AreApart roots → (key : Key) → is_key key
 read_blocked roots apart key good places are tree = ap (λ (p : Places). place_blocked p tree) are ∙ blocked_shown roots apart key good tree
 
 pub warned_blocked : (host : Host) → AreApart host.roots → (key : Key) → is_key key ≡ true → (script : Script) (conf : Conf) (places : Places) → places ≡ places_of host.roots key
-    → (old mid : State) (before after : Report) (stop : Stop) → after.out ≡ before.out → after.err ≡ before.err ++ unused_lines conf.unused
+    → (old mid : State) (before after : Report) (stop : Stop) → after.out ≡ before.out → (names : List (List ℕ)) → names ≡ conf.unused
+    → after.err ≡ before.err ++ unused_lines names
     → Decides (place_blocked places) {T = Unit {0}} old mid (Err stop) → Does host.roots (add_with host script key conf) {T = Unit {0}} old mid before after (Err stop)
-warned_blocked host apart key good script conf places are old mid before after stop out err d =
+warned_blocked host apart key good script conf places are old mid before after stop out names all err d =
     let roots = host.roots in
     does_then roots (warn (unused_lines conf.unused)) (unless (blocked roots key) then add_and_run host script key conf) old old mid before after after (Err stop)
-    (does_warn roots (unused_lines conf.unused) old before after out err)
+    (does_warn roots (unused_lines conf.unused) old before after out (err ∙ ap (λ n. before.err ++ unused_lines n) all))
     (does_refused roots (place_blocked places) (blocked roots key) (add_and_run host script key conf) old mid after stop (read_blocked roots apart key good places are) d)
 
 pub warned_added : (host : Host) → AreApart host.roots → (key : Key) → is_key key ≡ true → (conf : Conf) (places : Places) → places ≡ places_of host.roots key
-    → (old mid new : State) (before between after : Report) (result : Result (Unit {0}) Stop) → between.out ≡ before.out → between.err ≡ before.err ++ unused_lines conf.unused
+    → (old mid new : State) (before between after : Report) (result : Result (Unit {0}) Stop) → between.out ≡ before.out → (names : List (List ℕ)) → names ≡ conf.unused
+    → between.err ≡ before.err ++ unused_lines names
     → Decides (place_blocked places) {T = Unit {0}} old mid (Ok tt) → Does host.roots (add_and_run host mid.script key conf) mid new between after result
     → Does host.roots (add_with host old.script key conf) old new before after result
-warned_added host apart key good conf places are old mid new before between after result out err d e =
+warned_added host apart key good conf places are old mid new before between after result out names all err d e =
     let roots = host.roots in
     let P : Script → Type 0 = λ s. Does roots (add_and_run host s key conf) mid new between after result in
     does_then roots (warn (unused_lines conf.unused)) (unless (blocked roots key) then add_and_run host old.script key conf) old old new before between after result
-    (does_warn roots (unused_lines conf.unused) old before between out err)
+    (does_warn roots (unused_lines conf.unused) old before between out (err ∙ ap (λ n. before.err ++ unused_lines n) all))
     (does_passed roots (place_blocked places) (blocked roots key) (add_and_run host old.script key conf) old mid new between after result (read_blocked roots apart key good places are) d
     (subst P d.ran_none.lasts.script e))
 
