@@ -32,7 +32,8 @@ use Rattle.kb_world.proofs.StepLaws.{parent-child}
 use Rattle.kb_world.proofs.ThenLaws.{does_then, does_unread, does_read, does_warn}
 use Rattle.kb_conf.specs.declared.conf.Conf.{Conf}
 use Rattle.kb_conf.specs.declared.given.Given.{Given}
-use Rattle.kb_conf.specs.Load.{conf_path, no_conf, matched, after, loaded_conf}
+use Rattle.kb_conf.specs.Given.{given_for}
+use Rattle.kb_conf.specs.Load.{after, loaded_conf}
 use Rattle.kb_dkms.specs.declared.places.Places.{Places}
 use Rattle.kb_dkms.specs.Add.{add, add_with, add_and_run, already_added, source_conf, unused_lines, blocked, added_line}
 use Rattle.kb_dkms.specs.Host.{is_kernel_if_any, keeps_rules}
@@ -185,6 +186,10 @@ decides_added : (roots : Roots) → AreApart roots → (key : Key) → is_key ke
 decides_added roots apart key good link is old mid result sound =
     decides_as (standing key link) (λ tree. already_added roots key (public_tree roots tree)) old mid result (λ tree told.
     ap (λ p. standing key p tree) is ∙ standing_shown roots apart key good tree ∙ standing_is_added roots key good (public_tree roots tree) (sound tree told))
+
+-- what a conf is read for is what the host gives
+pub for_host : (host : Host) (kernel : Option (List ℕ)) (given : Given) → kernel ≡ host.kernel → given ≡ given_for host.roots kernel host.arch → given ≡ host_given host
+for_host host kernel given same is = is ∙ ap (λ k. given_for host.roots k host.arch) same
 
 -- it is added already
 pub add_refused : (host : Host) → AreApart host.roots → (key : Key) → is_key key ≡ true → (script : Script) (link : Path) → link ≡ link_path host.roots key → (old mid : State) (report : Report) (stop : Stop)

@@ -7,7 +7,7 @@ use Rattle.kb_world.specs.Path.{Path}
 use Rattle.kb_world.specs.Script.{Script}
 use Rattle.kb_world.specs.View.{is_own}
 use Rattle.kb_world.specs.State.{State}
-use Rattle.kb_world.specs.Outcome.{Action, warn, asks}
+use Rattle.kb_world.specs.Outcome.{Action, warn}
 use Rattle.kb_world.specs.Does.{Does, Asks}
 use Rattle.kb_world.specs.declared.roots.Roots.{Roots}
 use Rattle.kb_world.specs.declared.job.Key.{Key}

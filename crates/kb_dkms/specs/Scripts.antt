@@ -10,7 +10,6 @@ use Rattle.kb_world.specs.declared.job.Key.{Key}
 use Rattle.kb_world.specs.declared.job.Host.{Host}
 use Rattle.kb_world.specs.declared.child.Area.TheVariants as areas
 use Rattle.kb_world.specs.declared.child.Request.{Request}
-use Rattle.kb_world.specs.declared.child.Reply.{Reply}
 use Rattle.kb_conf.specs.declared.given.Given.{Given}
 use Rattle.kb_conf.specs.Given.{given_for, environment}
 

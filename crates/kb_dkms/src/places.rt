@@ -22,11 +22,7 @@ pub(crate) struct Places {
     pub(crate) text: Text,
 }
 
-pub(crate) fn find_places(
-    alloc: Global,
-    roots: &Roots,
-    key: &Key,
-) -> Result<Places, AllocError>
+pub(crate) fn find_places(alloc: Global, roots: &Roots, key: &Key) -> Result<Places, AllocError>
     requires { IsTrue (is_key key.now) }
     ensures { IfOk result (λ places. places ≡ places_of roots.now key.now) }
 {
@@ -94,11 +90,7 @@ fn ensure_directory<W: World>(alloc: Global, world: &mut W, path: &Path) -> Resu
 }
 
 /// Makes the version's link, and the directories above it that aren't there.
-pub(crate) fn make_link<W: World>(
-    alloc: Global,
-    world: &mut W,
-    places: &Places,
-) -> Result<(), Stop>
+pub(crate) fn make_link<W: World>(alloc: Global, world: &mut W, places: &Places) -> Result<(), Stop>
     requires nested { IsNested places.now }
     requires free { ForSome (W.state world.old).tree (CanPlace places.now) }
     ensures { Transforms (place_step places.now) (W.state world.old) (W.state world.new) result }

@@ -2,14 +2,16 @@
 ghost use Rattle.std.specs.Prelude.{◌≡◌, ◌++◌, IfOk, OnOk, IsTrue, true};
 ghost use Rattle.std.specs.Option.{ForSome, option_copied};
 ghost use Rattle.kb_world.specs.Tree.{node_at, is_dir};
-ghost use Rattle.kb_world.specs.Store.{is_key, source_path};
+ghost use Rattle.kb_world.specs.Store.{source_path};
 ghost use Rattle.kb_world.specs.Does.{Asks, Does};
 ghost use Rattle.kb_world.specs.declared.roots.Roots.{Roots};
 ghost use Rattle.kb_world.specs.declared.child.Area.TheVariants as areas;
 ghost use Rattle.kb_dkms.specs.Scripts as rule;
 
 use kb_conf::Given;
-use kb_world::{Area, Bytes, Host, Key, Path, Reply, Report, Request, Roots, Sequence, Stop, Text, Texts, World};
+use kb_world::{
+    Area, Bytes, Host, Key, Path, Reply, Report, Request, Sequence, Stop, Text, Texts, World,
+};
 use std::alloc::{AllocError, Global};
 
 /// Adds the line of a warning.
@@ -81,11 +83,7 @@ fn arguments_of(alloc: Global, script: &Text) -> Result<Texts, AllocError>
 }
 
 // A script of the package, which runs in the directory of its source and sees what is there.
-fn script_request(
-    alloc: Global,
-    source: Source<'_>,
-    script: &Text,
-) -> Result<Request, AllocError>
+fn script_request(alloc: Global, source: Source<'_>, script: &Text) -> Result<Request, AllocError>
     requires { source.dir.now ≡ source_path source.host.now.roots source.key.now }
     ensures { IfOk result (λ request. request ≡ rule.script_request source.entry.host.now.roots source.entry.given.now source.entry.key.now script.now) }
 {

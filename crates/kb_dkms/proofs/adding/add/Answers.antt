@@ -1,12 +1,9 @@
 -- One look decides whether the version is added, and then its conf is read.
-use Rattle.std.proofs.Common.{◌≡◌, Option, Some, ap, sym, ◌∙◌, subst}
+use Rattle.std.proofs.Common.{Some, ap, sym, ◌∙◌, subst}
 use Rattle.std.specs.Option.{option_copied}
-use Rattle.kb_world.specs.Tree.{Tree}
-use Rattle.kb_world.specs.declared.job.Key.{Key}
-use Rattle.kb_conf.specs.Given.{given_for}
 use Rattle.kb_dkms.specs.declared.places.Places.{Places}
 use Rattle.kb_dkms.specs.Places.{standing, IsFree}
-use Rattle.kb_dkms.proofs.DoesAdd.{kernel_named, is_free, loaded_dir, add_refused, add_unread, add_read}
+use Rattle.kb_dkms.proofs.DoesAdd.{kernel_named, is_free, loaded_dir, for_host, add_refused, add_unread, add_read}
 use Rattle.kb_dkms.proofs.adding.add.Goals as goal
 
 pub of-requires : goal.of-requires
@@ -21,7 +18,7 @@ pub returns-in-Err-load_conf : goal.returns-in-Err-load_conf
 returns-in-Err-load_conf g c =
     let host = c.args.job.now.host in
     let places = c.in_ok-places in
-    let for = c.in_ok-given.ensures ∙ ap (λ kernel. given_for host.roots kernel host.arch) c.as_ref.ensures.value in
+    let for = for_host host _ c.in_ok-given.given c.as_ref.ensures.value c.in_ok-given.ensures in
     add_unread host c.requires.apart c.args.key.now c.requires.named (g.W.World.state c.args.world.now).script places.places.link (ap (λ (p : Places). p.link) places.ensures) places.places.source
     (ap (λ (p : Places). p.source) places.ensures) c.in_ok-given.given for _ _ _ c.args.report.now c.in-Err-load_conf.stop c.requires.sound c.in-Ok.ensures c.in-Err-load_conf.ensures
 
@@ -40,6 +37,6 @@ pub returns : goal.returns
 returns g c =
     let host = c.args.job.now.host in
     let places = c.in_ok-places in
-    let for = c.in_ok-given.ensures ∙ ap (λ kernel. given_for host.roots kernel host.arch) c.as_ref.ensures.value in
+    let for = for_host host _ c.in_ok-given.given c.as_ref.ensures.value c.in_ok-given.ensures in
     add_read host c.requires.apart c.args.key.now c.requires.named places.places.link (ap (λ (p : Places). p.link) places.ensures) places.places.source
     (ap (λ (p : Places). p.source) places.ensures) c.in_ok-given.given for c.in-Ok-load_conf.conf _ _ _ _ c.args.report.now _ c.add_with.result c.requires.sound c.in-Ok.ensures c.in-Ok-load_conf.ensures c.add_with.ensures

@@ -1,6 +1,6 @@
 -- The warnings come first, and then what is in the way is looked at.
 use Rattle.std.proofs.Common.{refl}
-use Rattle.kb_dkms.proofs.DoesAdd.{can_place, warned_blocked, warned_added}
+use Rattle.kb_dkms.proofs.DoesAdd.{warned_blocked, warned_added}
 use Rattle.kb_dkms.proofs.adding.add_with.Goals as goal
 
 pub returns-in-Err : goal.returns-in-Err
