@@ -1,3 +1,4 @@
 pub mod Add
 pub mod Host
+pub mod Places
 pub mod Scripts

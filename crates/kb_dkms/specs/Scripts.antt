@@ -10,8 +10,7 @@ use Rattle.kb_world.specs.declared.job.Key.{Key}
 use Rattle.kb_world.specs.declared.job.Host.{Host}
 use Rattle.kb_world.specs.declared.child.Area.TheVariants as areas
 use Rattle.kb_world.specs.declared.child.Request.{Request}
-use Rattle.kb_world.specs.declared.child.Reply.{Reply}
-use Rattle.kb_conf.specs.Assignment.{Given}
+use Rattle.kb_conf.specs.declared.given.Given.{Given}
 use Rattle.kb_conf.specs.Given.{given_for, environment}
 
 -- what a conf is read for on the machine that a command runs on
@@ -26,11 +25,15 @@ warning_line text = codes "warning: " ++ text ++ LINE_FEED ∷ []
 abbrev pub ended_line : List ℕ → ℕ → List ℕ
 ended_line which code = cond (nat_eq code 0) [] (warning_line (which ++ codes " ended with " ++ decimal code))
 
+-- the shell's words for a script
+abbrev pub script_args : List ℕ → List (List ℕ)
+script_args script = codes "-c" ∷ (codes "./" ++ script) ∷ []
+
 -- a script of the package's source, with its words: it runs there, sees what is there, and may change nothing
 abbrev pub script_request : Roots → Given → Key → List ℕ → Request
 script_request roots given key script = record {
   program = codes "/bin/sh";
-  args = codes "-c" ∷ (codes "./" ++ script) ∷ [];
+  args = script_args script;
   env = environment given key;
   dir = source_path roots key;
   area = areas.Nothing;

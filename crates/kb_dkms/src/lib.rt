@@ -1,8 +1,8 @@
 //! The actions of dkms on packages.
 #![tactic(auto)]
 
-mod add;
+mod adding;
 mod places;
 mod scripts;
 
-pub use add::add;
+pub use adding::add;

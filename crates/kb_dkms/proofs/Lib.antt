@@ -1,0 +1,4 @@
+pub mod AddLaws
+pub mod DoesAdd
+pub mod PlaceLaws
+pub mod ScriptLaws
