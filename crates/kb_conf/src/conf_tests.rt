@@ -1,4 +1,6 @@
 //! Confs, read whole.
+ghost use Rattle.std.specs.Prelude.{◌≤◌, length};
+
 use super::conf::Conf;
 use super::given::Given;
 use super::load::read_for;
@@ -85,6 +87,29 @@ fn shown(alloc: Global, conf: &Conf) -> Result<String, AllocError> {
     Ok(out)
 }
 
+/// All that a conf says, or why it is refused.
+fn told(alloc: Global, read: &Result<Conf, Stop>) -> Result<String, AllocError> {
+    match read {
+        Ok(conf) => shown(alloc, conf),
+        Err(Stop::Refused(refusal)) => format!(in alloc; "{refusal}"),
+        Err(_) => String::from_str(alloc, "stopped"),
+    }
+}
+
+fn answer(alloc: Global, text: &[u8], given: &Given) -> Result<String, AllocError>
+    requires { length text.now ≤ 65_536 }
+{
+    let read = read_conf(alloc, text, given);
+    told(alloc, &read)
+}
+
+fn answer_at(alloc: Global, text: &[u8], kernel: &str) -> Result<String, AllocError>
+    requires { length text.now ≤ 65_536 }
+{
+    let given = given(alloc, kernel)?;
+    answer(alloc, text, &given)
+}
+
 fn expect_conf(
     rt: &impl Abort,
     alloc: Global,
@@ -92,31 +117,14 @@ fn expect_conf(
     kernel: &str,
     expected: &str,
 ) -> Result<(), Fail> {
-    if text.len() > 65_536 {
-        return Ok(());
-    }
-    match read_conf(alloc, text.as_bytes(), &given(alloc, kernel)?) {
-        Ok(conf) => {
-            let shown = shown(alloc, &conf)?;
-            assert_eq!(rt; shown.as_str(), expected);
-        }
-        Err(_) => assert_eq!(rt; "refused", expected),
-    }
+    assert!(rt; text.len() <= 65_536);
+    let answer = answer_at(alloc, text.as_bytes(), kernel)?;
+    assert_eq!(rt; answer.as_str(), expected);
     Ok(())
 }
 
 fn expect_refused(rt: &impl Abort, alloc: Global, text: &str, expected: &str) -> Result<(), Fail> {
-    if text.len() > 65_536 {
-        return Ok(());
-    }
-    match read_conf(alloc, text.as_bytes(), &given(alloc, "6.1.0")?) {
-        Err(Stop::Refused(refusal)) => {
-            let shown = format!(in alloc; "{refusal}")?;
-            assert_eq!(rt; shown.as_str(), expected);
-        }
-        _ => assert_eq!(rt; "read", expected),
-    }
-    Ok(())
+    expect_conf(rt, alloc, text, "6.1.0", expected)
 }
 
 #[test]
@@ -197,6 +205,18 @@ patch 2 q\npatch 7 p\nm\npre_build x y\npost_remove z\ndepends f e\nunused Z A M
     )
 }
 
+/// Refuses these lines of a package's conf.
+fn expect_bad_value(
+    rt: &impl Abort,
+    alloc: Global,
+    lines: &str,
+    expected: &str,
+) -> Result<(), Fail> {
+    let text = format!(in alloc; "PACKAGE_NAME=hello\nPACKAGE_VERSION=1.0\n{lines}\n")?;
+    let expected = format!(in alloc; "dkms.conf {expected}")?;
+    expect_refused(rt, alloc, text.as_str(), expected.as_str())
+}
+
 #[test]
 fn names_the_first_bad_value(rt: HostRuntime) -> Result<(), Fail> {
     let table: [(&str, &str); 17] = [
@@ -257,34 +277,37 @@ fn names_the_first_bad_value(rt: HostRuntime) -> Result<(), Fail> {
             "has a bad BUILD_DEPENDS[6]",
         ),
     ];
-    let alloc = rt.alloc();
     for (rest, expected) in table {
-        let text = format!(in alloc; "PACKAGE_NAME=hello\nPACKAGE_VERSION=1.0\n{rest}\n")?;
-        let expected = format!(in alloc; "dkms.conf {expected}")?;
-        expect_refused(&rt, alloc, text.as_str(), expected.as_str())?;
+        expect_bad_value(&rt, rt.alloc(), rest, expected)?;
     }
     Ok(())
+}
+
+/// The pattern that goes on after its first bytes with so many of one character.
+fn long_pattern(alloc: Global, first: &str, more: char, count: u64) -> Result<String, AllocError> {
+    let mut pattern = String::from_str(alloc, first)?;
+    for _ in 0..count {
+        pattern.push(more)?;
+    }
+    Ok(pattern)
+}
+
+fn expect_bad_pattern(rt: &impl Abort, alloc: Global, pattern: &str) -> Result<(), Fail> {
+    let text = format!(in alloc;
+        "PACKAGE_NAME=a\nPACKAGE_VERSION=1\nBUILD_EXCLUSIVE_KERNEL={pattern}"
+    )?;
+    let expected = "dkms.conf has a bad BUILD_EXCLUSIVE_KERNEL";
+    expect_refused(rt, alloc, text.as_str(), expected)
 }
 
 /// A pattern of 257 bytes, and one of 252 that is nested too deep for the engine.
 #[test]
 fn refuses_long_and_deep_patterns(rt: HostRuntime) -> Result<(), Fail> {
     let alloc = rt.alloc();
-    let mut long = String::from_str(
-        alloc,
-        "PACKAGE_NAME=a\nPACKAGE_VERSION=1\nBUILD_EXCLUSIVE_KERNEL=",
-    )?;
-    let mut deep = String::from_str(alloc, long.as_str())?;
-    deep.push('a')?;
-    for _ in 0..251 {
-        deep.push('*')?;
-    }
-    for _ in 0..257 {
-        long.push('a')?;
-    }
-    let expected = "dkms.conf has a bad BUILD_EXCLUSIVE_KERNEL";
-    expect_refused(&rt, alloc, long.as_str(), expected)?;
-    expect_refused(&rt, alloc, deep.as_str(), expected)
+    let long = long_pattern(alloc, "", 'a', 257)?;
+    expect_bad_pattern(&rt, alloc, long.as_str())?;
+    let deep = long_pattern(alloc, "a", '*', 251)?;
+    expect_bad_pattern(&rt, alloc, deep.as_str())
 }
 
 fn key(alloc: Global, version: &str) -> Result<Key, AllocError> {
@@ -294,27 +317,34 @@ fn key(alloc: Global, version: &str) -> Result<Key, AllocError> {
     })
 }
 
-/// What is answered where this version of hello is asked for and the conf is of 1.1.
-fn answer_for(alloc: Global, version: &str) -> Result<String, Fail> {
-    let text = "PACKAGE_NAME=hello\nPACKAGE_VERSION=1.1\n";
-    let asked = key(alloc, version)?;
-    match read_for(
-        alloc,
-        text.as_bytes(),
-        Some(&asked),
-        &given(alloc, "6.1.0")?,
-    ) {
-        Ok(conf) => Ok(format!(in alloc; "{}", conf.key)?),
-        Err(Stop::Refused(refusal)) => Ok(format!(in alloc; "{refusal}")?),
-        Err(_) => Ok(String::from_str(alloc, "stopped")?),
-    }
+/// What is answered where this key is asked for and the conf is of hello/1.1.
+fn answer_for(alloc: Global, key: &Key, given: &Given) -> Result<String, AllocError> {
+    let text = b"PACKAGE_NAME=hello\nPACKAGE_VERSION=1.1\n".as_slice();
+    let read = read_for(alloc, text, Some(key), given);
+    told(alloc, &read)
+}
+
+fn expect_for_version(
+    rt: &impl Abort,
+    alloc: Global,
+    version: &str,
+    expected: &str,
+) -> Result<(), Fail> {
+    let key = key(alloc, version)?;
+    let given = given(alloc, "6.1.0")?;
+    let answer = answer_for(alloc, &key, &given)?;
+    assert_eq!(rt; answer.as_str(), expected);
+    Ok(())
 }
 
 #[test]
 fn refuses_the_conf_of_another_version(rt: HostRuntime) -> Result<(), Fail> {
-    let other = answer_for(rt.alloc(), "1.0")?;
-    assert_eq!(rt; other.as_str(), "dkms.conf is of hello/1.1");
-    let same = answer_for(rt.alloc(), "1.1")?;
-    assert_eq!(rt; same.as_str(), "hello/1.1");
-    Ok(())
+    expect_for_version(&rt, rt.alloc(), "1.0", "dkms.conf is of hello/1.1")?;
+    expect_for_version(
+        &rt,
+        rt.alloc(),
+        "1.1",
+        "hello/1.1 false false\ntarget 0 hello hello true\nfrom\nto updates dkms
+make -C /lib/modules/6.1.0/build M=/var/lib/dkms/hello/1.1/build\ndepends\nunused\n",
+    )
 }

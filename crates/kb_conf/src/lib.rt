@@ -35,4 +35,6 @@ pub use table::{Assignment, Table};
 #[cfg(test)]
 mod conf_tests;
 #[cfg(test)]
+mod given_tests;
+#[cfg(test)]
 mod tests;

@@ -1,5 +1,6 @@
 use super::given::Given;
 use super::reading::{ReadError, read_text, without_returns};
+use super::table::{Assignment, Table};
 use kb_world::Text;
 use std::alloc::{AllocError, Global};
 use std::process::Abort;
@@ -15,7 +16,33 @@ fn given(alloc: Global) -> Result<Given, AllocError> {
     })
 }
 
-/// Reads a good text. What is expected is each assignment as `NAME[N]=VALUE|`.
+fn push_assignment(
+    alloc: Global,
+    found: &mut Vec<u8>,
+    assignment: &Assignment<'_>,
+) -> Result<(), AllocError> {
+    found.extend_from_slice(assignment.name)?;
+    let number = format!(in alloc; "[{}]=", assignment.number)?;
+    found.extend_from_slice(number.as_bytes())?;
+    found.extend_from_slice(assignment.value.as_slice())?;
+    found.extend_from_slice(b"|")
+}
+
+/// Each assignment as `NAME[N]=VALUE|`.
+fn shown(alloc: Global, table: &Table<'_>) -> Result<Vec<u8>, AllocError> {
+    let mut found = Vec::new(alloc);
+    for assignment in table.assignments() {
+        push_assignment(alloc, &mut found, assignment)?;
+    }
+    Ok(found)
+}
+
+/// Reads a good text.
+fn read_good(alloc: Global, text: &[u8], given: &Given) -> Result<Vec<u8>, ReadError> {
+    let table = read_text(alloc, text, given)?;
+    Ok(shown(alloc, &table)?)
+}
+
 fn expect_good(
     rt: &impl Abort,
     alloc: Global,
@@ -23,25 +50,26 @@ fn expect_good(
     expected: &[u8],
 ) -> Result<(), ReadError> {
     let text = without_returns(alloc, text)?;
-    let table = read_text(alloc, text.as_slice(), &given(alloc)?)?;
-    let mut found = Vec::new(alloc);
-    for assignment in table.assignments() {
-        found.extend_from_slice(assignment.name)?;
-        let number = format!(in alloc; "[{}]=", assignment.number)?;
-        found.extend_from_slice(number.as_bytes())?;
-        found.extend_from_slice(assignment.value.as_slice())?;
-        found.extend_from_slice(b"|")?;
-    }
+    let given = given(alloc)?;
+    let found = read_good(alloc, text.as_slice(), &given)?;
     assert_eq!(rt; found.as_slice(), expected);
     Ok(())
 }
 
+/// The bad line of a text; 0 where it has none.
+fn line_refused(alloc: Global, text: &[u8], given: &Given) -> Result<u64, ReadError> {
+    match read_text(alloc, text, given) {
+        Ok(_) => Ok(0),
+        Err(ReadError::BadLine(line)) => Ok(line),
+        Err(error) => Err(error),
+    }
+}
+
 fn expect_bad(rt: &impl Abort, alloc: Global, text: &[u8], line: u64) -> Result<(), ReadError> {
     let text = without_returns(alloc, text)?;
-    match read_text(alloc, text.as_slice(), &given(alloc)?) {
-        Ok(_) => assert_eq!(rt; 0, line),
-        Err(error) => assert_eq!(rt; error, ReadError::BadLine(line)),
-    }
+    let given = given(alloc)?;
+    let found = line_refused(alloc, text.as_slice(), &given)?;
+    assert_eq!(rt; found, line);
     Ok(())
 }
 
@@ -282,6 +310,21 @@ fn reads_commands(rt: HostRuntime) -> Result<(), Fail> {
     Ok(())
 }
 
+fn expect_longest_value(
+    rt: &impl Abort,
+    alloc: Global,
+    text: &[u8],
+    given: &Given,
+) -> Result<(), ReadError> {
+    let table = read_text(alloc, text, given)?;
+    assert_eq!(rt; table.assignments().len(), 15);
+    assert_eq!(rt;
+        table.value(b"A12", 0).map(|value| value.len()),
+        Some(65_536)
+    );
+    Ok(())
+}
+
 /// Each line doubles the value before it: the thirteenth passes 65,536 bytes.
 #[test]
 fn refuses_a_value_that_is_too_long(rt: HostRuntime) -> Result<(), Fail> {
@@ -291,12 +334,8 @@ fn refuses_a_value_that_is_too_long(rt: HostRuntime) -> Result<(), Fail> {
 A3=\"$A2$A2\"\nA4=\"$A3$A3\"\nA5=\"$A4$A4\"\nA6=\"$A5$A5\"\nA7=\"$A6$A6\"\nA8=\"$A7$A7\"\nA9=\"$A8$A8\"\n\
 A10=\"$A9$A9\"\nA11=\"$A10$A10\"\nA12=\"$A11$A11\"\n"
             .as_slice();
-    let table = read_text(alloc, text, &given(alloc)?)?;
-    assert_eq!(rt; table.assignments().len(), 15);
-    assert_eq!(rt;
-        table.value(b"A12", 0).map(|value| value.len()),
-        Some(65_536)
-    );
+    let given = given(alloc)?;
+    expect_longest_value(&rt, alloc, text, &given)?;
     let mut longer = Vec::from_slice(alloc, text)?;
     longer.extend_from_slice(b"A13=\"$A12$A12\"\n")?;
     expect_bad(&rt, alloc, longer.as_slice(), 16)?;
