@@ -1,5 +1,5 @@
 -- The least of claims, found part by part.
-use Rattle.std.proofs.Common.{◌≡◌, ◌⊎◌, inl, inr, ℕ, Bool, true, false, cond, ◌&&◌, not, List, [], ◌∷◌, ◌++◌, Option, Some, None, Ordering, refl, sym, ap, ◌∙◌, subst, ◌+◌, ◌<◌, length, take, get_or, append-nil}
+use Rattle.std.proofs.Common.{◌≡◌, ◌⊎◌, inl, inr, ℕ, Bool, true, false, cond, not, List, [], ◌∷◌, ◌++◌, Option, Some, None, Ordering, refl, sym, ap, ◌∙◌, subst, ◌+◌, ◌<◌, length, take, get_or, append-nil}
 use Rattle.std.specs.Prelude.{map, filter, flat_map, bytes_eq}
 use Rattle.std.specs.List.{find, list_all}
 use Rattle.std.specs.declared.cmp.Ordering.TheVariants.{Less, Equal, Greater}

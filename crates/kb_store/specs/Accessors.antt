@@ -1,5 +1,5 @@
 -- What is asked of a store. This project's own.
-use Rattle.std.specs.Prelude.{ℕ, Bool, ◌&&◌, not, cond, List, [], ◌∷◌, map, filter, flat_map, Option, unwrap_or, bytes_eq}
+use Rattle.std.specs.Prelude.{ℕ, Bool, ◌&&◌, not, cond, List, [], map, filter, flat_map, Option, unwrap_or, bytes_eq}
 use Rattle.std.specs.Option.{option_map}
 use Rattle.std.specs.List.{find, list_all}
 use Rattle.std.specs.Ordering.{is_lt, ordering_then, nat_cmp}
