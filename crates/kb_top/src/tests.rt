@@ -2,33 +2,43 @@
 
 use crate::{Setting, start};
 use kb_memory::{MemorySink, MemoryWorld};
-use kb_world::{Bytes, Node, Path, Roots, Text, is_name};
+use kb_world::{Bytes, EffectRow, Node, Path, Roots, Text, is_name};
 use std::alloc::{AllocError, Global};
 use std::process::Abort;
 use std::str;
 use std::test::Fail;
 
+mod confs;
 mod settings;
 
 // What stands somewhere before the command: its directory, its name and what it is.
 enum What {
     Dir,
-    File,
+    File(&'static str),
     Link(&'static str),
 }
 
 struct Entry(&'static str, &'static str, What);
 
-const PLAIN: [Entry; 8] = [
+const HELLO_CONF: &str = "PACKAGE_NAME=\"hello\"
+PACKAGE_VERSION=\"1.0\"
+BUILT_MODULE_NAME[0]=\"hello\"
+DEST_MODULE_LOCATION[0]=\"/updates/dkms\"
+AUTOINSTALL=\"yes\"
+";
+
+// The directories of the plain world, and the package hello without its conf.
+const BARE: [Entry; 7] = [
     Entry("/", "var", What::Dir),
     Entry("/var", "lib", What::Dir),
     Entry("/var/lib", "dkms", What::Dir),
     Entry("/", "usr", What::Dir),
     Entry("/usr", "src", What::Dir),
     Entry("/usr/src", "hello-1.0", What::Dir),
-    Entry("/usr/src/hello-1.0", "dkms.conf", What::File),
-    Entry("/usr/src/hello-1.0", "hello.c", What::File),
+    Entry("/usr/src/hello-1.0", "hello.c", What::File("text\n")),
 ];
+
+const CONF: [Entry; 1] = [Entry("/usr/src/hello-1.0", "dkms.conf", What::File(HELLO_CONF))];
 
 const ADD_HELLO: [&str; 3] = ["dkms", "add", "hello/1.0"];
 
@@ -37,8 +47,8 @@ const LINK: &str = "/var/lib/dkms/hello/1.0/source";
 fn node_of(alloc: Global, what: &What) -> Result<Node, AllocError> {
     match what {
         What::Dir => Ok(Node::Dir),
-        What::File => Ok(Node::File {
-            bytes: Bytes::of(alloc, b"text\n")?,
+        What::File(text) => Ok(Node::File {
+            bytes: Bytes::of(alloc, text.as_bytes())?,
             exec: false,
         }),
         What::Link(text) => Ok(Node::Link {
@@ -83,18 +93,19 @@ fn put_all(
     Ok(())
 }
 
-// It says nothing of the world that it makes, so that nothing has to be carried along.
+// A world with this script. It says nothing of the world that it makes, so that nothing has to be carried along.
+fn world_of(alloc: Global, script: Vec<EffectRow>) -> Result<MemoryWorld, AllocError> {
+    MemoryWorld::new(alloc, Roots::under(alloc, &Path::root(alloc))?, script)
+}
+
 fn empty_world(alloc: Global) -> Result<MemoryWorld, AllocError> {
-    MemoryWorld::new(
-        alloc,
-        Roots::under(alloc, &Path::root(alloc))?,
-        Vec::new(alloc),
-    )
+    world_of(alloc, Vec::new(alloc))
 }
 
 fn plain_world(rt: &impl Abort, alloc: Global) -> Result<MemoryWorld, Fail> {
     let mut world = empty_world(alloc)?;
-    put_all(rt, alloc, &mut world, &PLAIN)?;
+    put_all(rt, alloc, &mut world, &BARE)?;
+    put_all(rt, alloc, &mut world, &CONF)?;
     Ok(world)
 }
 
@@ -332,14 +343,14 @@ fn words_have_their_answers(rt: HostRuntime) -> Result<(), Fail> {
 // What stands besides the plain world, and the refusal of `dkms add hello/1.0`.
 struct Refused(&'static [Entry], u8, &'static str);
 
-const REFUSED: [Refused; 6] = [
+const REFUSED: [Refused; 7] = [
     Refused(
-        &[Entry("/var/lib/dkms", ".intent", What::File)],
+        &[Entry("/var/lib/dkms", ".intent", What::File("x"))],
         20,
         "kmodboot: /var/lib/dkms/.intent: damaged\n",
     ),
     Refused(
-        &[Entry("/var/lib/dkms", "hello", What::File)],
+        &[Entry("/var/lib/dkms", "hello", What::File("x"))],
         20,
         "kmodboot: /var/lib/dkms/hello: damaged\n",
     ),
@@ -385,6 +396,27 @@ const REFUSED: [Refused; 6] = [
         ],
         4,
         "kmodboot: hello/1.0: already added\n",
+    ),
+    // Another package's build has a file `targets` that isn't in its format.
+    Refused(
+        &[
+            Entry("/var/lib/dkms", "world", What::Dir),
+            Entry("/var/lib/dkms/world", "2.0", What::Dir),
+            Entry(
+                "/var/lib/dkms/world/2.0",
+                "source",
+                What::Link("/usr/src/world-2.0"),
+            ),
+            Entry("/var/lib/dkms/world/2.0", "6.1.0", What::Dir),
+            Entry("/var/lib/dkms/world/2.0/6.1.0", "x86_64", What::Dir),
+            Entry(
+                "/var/lib/dkms/world/2.0/6.1.0/x86_64",
+                "targets",
+                What::File("kmodboot targets 1\n"),
+            ),
+        ],
+        20,
+        "kmodboot: /var/lib/dkms/world/2.0/6.1.0/x86_64/targets: damaged\n",
     ),
 ];
 
@@ -451,9 +483,10 @@ fn what_lacks_refuses_it(rt: HostRuntime) -> Result<(), Fail> {
     Ok(())
 }
 
-// One look at the journal's place, two at the roots, five at the package's places and one more come before it.
+// One look at the journal's place, two at the roots, one list of the store, one look at the link, three calls for the
+// conf, two looks at the link's directories and one more come before it.
 fn faults(rt: &impl Abort, alloc: Global, world: &mut MemoryWorld) -> Result<(), Fail> {
-    world.fail_at(vec![in alloc; 10]?);
+    world.fail_at(vec![in alloc; 12]?);
     let given = answer_to(alloc, world, &ADD_HELLO)?;
     assert!(rt; given.status == 70);
     assert!(rt; given.out.is_empty());

@@ -1,7 +1,8 @@
 // The answers to what is set in the environment.
 
 use super::{
-    ADD_HELLO, Entry, Set, What, answer_with, empty_world, is_linked, link_at, plain_world, put_all,
+    ADD_HELLO, Entry, HELLO_CONF, Set, What, answer_with, empty_world, is_linked, link_at,
+    plain_world, put_all,
 };
 use kb_memory::MemoryWorld;
 use std::alloc::Global;
@@ -60,7 +61,7 @@ const BELOW_R: [Entry; 8] = [
     Entry("/r", "usr", What::Dir),
     Entry("/r/usr", "src", What::Dir),
     Entry("/r/usr/src", "hello-1.0", What::Dir),
-    Entry("/r/usr/src/hello-1.0", "dkms.conf", What::File),
+    Entry("/r/usr/src/hello-1.0", "dkms.conf", What::File(HELLO_CONF)),
 ];
 
 fn adds_below(rt: &impl Abort, alloc: Global, world: &mut MemoryWorld) -> Result<(), Fail> {
