@@ -6,3 +6,6 @@ mod places;
 mod scripts;
 
 pub use adding::add;
+
+#[cfg(test)]
+mod tests;
