@@ -110,7 +110,7 @@ fn answer_at(alloc: Global, text: &[u8], kernel: &str) -> Result<String, AllocEr
     answer(alloc, text, &given)
 }
 
-fn expect_conf(
+fn expect_answer(
     rt: &impl Abort,
     alloc: Global,
     text: &str,
@@ -124,12 +124,12 @@ fn expect_conf(
 }
 
 fn expect_refused(rt: &impl Abort, alloc: Global, text: &str, expected: &str) -> Result<(), Fail> {
-    expect_conf(rt, alloc, text, "6.1.0", expected)
+    expect_answer(rt, alloc, text, "6.1.0", expected)
 }
 
 #[test]
 fn reads_the_conf_of_a_driver(rt: HostRuntime) -> Result<(), Fail> {
-    expect_conf(
+    expect_answer(
         &rt,
         rt.alloc(),
         ACME_WIFI,
@@ -149,7 +149,7 @@ unused REMAKE_INITRD
 
 #[test]
 fn excludes_an_older_kernel(rt: HostRuntime) -> Result<(), Fail> {
-    expect_conf(
+    expect_answer(
         &rt,
         rt.alloc(),
         ACME_WIFI,
@@ -168,7 +168,7 @@ unused REMAKE_INITRD
 
 #[test]
 fn takes_the_last_make_that_matches(rt: HostRuntime) -> Result<(), Fail> {
-    expect_conf(
+    expect_answer(
         &rt,
         rt.alloc(),
         "PACKAGE_NAME=a\nPACKAGE_VERSION=1\nMAKE[0]=zero\nMAKE[1]=one\nMAKE_MATCH[1]=6\nMAKE[2]=two\nMAKE_MATCH[2]=1\\.0
@@ -180,7 +180,7 @@ MAKE[3]=three\nMAKE[4]=four\nMAKE_MATCH[4]=^1\nMAKE[5]=five\nMAKE_MATCH[5]=^6$",
 
 #[test]
 fn makes_by_default(rt: HostRuntime) -> Result<(), Fail> {
-    expect_conf(
+    expect_answer(
         &rt,
         rt.alloc(),
         "PACKAGE_NAME=a\nPACKAGE_VERSION=1\nMAKE[0]=zero\nMAKE_MATCH[0]=^5",
@@ -192,7 +192,7 @@ make -C /lib/modules/6.1.0/build M=/var/lib/dkms/a/1/build\ndepends\nunused\n",
 
 #[test]
 fn reads_numbered_values(rt: HostRuntime) -> Result<(), Fail> {
-    expect_conf(
+    expect_answer(
         &rt,
         rt.alloc(),
         "PACKAGE_NAME=a\nPACKAGE_VERSION=1\nMAKE=m\nSTRIP[0]=no\nSTRIP[3]=yes\nZ=1\nBUILT_MODULE_NAME[3]=c
