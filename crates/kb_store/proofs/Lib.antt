@@ -1,5 +1,6 @@
 pub mod ChestLaws
 pub mod ClaimLaws
+pub mod ContentsLaws
 pub mod FarLaws
 pub mod LimitLaws
 pub mod LinkLaws
