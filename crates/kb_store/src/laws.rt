@@ -16,7 +16,7 @@ ghost use Rattle.kb_store.specs.Accessors.{added_in, builds_in, installed_in, ke
 /// The lists of a store tell the parts of its tree: a package is among the added ones exactly where it is added; a
 /// build is among the builds exactly where it is there, with its places; the version that is found installed is the
 /// one that is installed; and the files that are found kept are those that are kept. This holds of every tree, with
-/// damage or without.
+/// damage or without; of kept files, of every tree in which all stands in directories.
 pub fn a_store_tells_its_parts()
     ensures added { (roots : Roots) (store : Tree) (key : Key) → list_any (same_key key) (added_in (store_of roots store)) ≡ (is_key key && is_added roots key store) }
     ensures builds { (roots : Roots) (store : Tree) (key : Key) (spot : Spot) → is_key key ≡ true → is_spot spot ≡ true →
