@@ -1,5 +1,7 @@
 pub mod ChestLaws
 pub mod ClaimLaws
+pub mod ContentsLaws
+pub mod EntryLaws
 pub mod FarLaws
 pub mod LimitLaws
 pub mod LinkLaws

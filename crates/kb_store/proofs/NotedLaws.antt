@@ -62,11 +62,11 @@ pub harmed_then : (notes : Notes) (xs ys : List Path) → harmed (harmed notes x
 harmed_then notes xs ys = ap (λ h. record notes { hurt = h }) (first_assoc notes.hurt (least xs) (least ys) ∙ ap (first_of_two notes.hurt) (sym (least-append xs ys)))
 
 -- what the package whose link would stand there adds
-abbrev added_names : Roots → Tree → Option Key → Option Key
+abbrev pub added_names : Roots → Tree → Option Key → Option Key
 added_names roots tree None = None
 added_names roots tree (Some key) = cond (is_added roots key tree) (Some key) None
 
-added_below : (roots : Roots) (tree : Tree) (names : Path) → added_at roots tree (roots.dkms ++ names) ≡ added_names roots tree (package_of names)
+pub added_below : (roots : Roots) (tree : Tree) (names : Path) → added_at roots tree (roots.dkms ++ names) ≡ added_names roots tree (package_of names)
 added_below roots tree names = by (package_of names) refl
   where
     by : (o : Option Key) → package_of names ≡ o → added_at roots tree (roots.dkms ++ names) ≡ added_names roots tree o
@@ -74,7 +74,7 @@ added_below roots tree names = by (package_of names) refl
     by (Some key) e = rw (under-append roots.dkms names, drop-front roots.dkms names, e) refl
 
 -- what a path below the dkms root gives is what its names there give
-names_below : {T : Type 0} (roots : Roots) (by : Path → Option T) (names : Path) → below_dkms roots by (roots.dkms ++ names) ≡ by names
+pub names_below : {T : Type 0} (roots : Roots) (by : Path → Option T) (names : Path) → below_dkms roots by (roots.dkms ++ names) ≡ by names
 names_below roots by names = ap (λ b. cond b (by (drop (length roots.dkms) (roots.dkms ++ names))) None) (under-append roots.dkms names) ∙ ap by (drop-front roots.dkms names)
 
 harm-below : (roots : Roots) (tree : Tree) (names : Path) → harm_at roots tree (roots.dkms ++ names) ≡ harm_below roots tree names

@@ -1,5 +1,5 @@
 -- Paths in their order: those below a directory stand entry by entry, each followed by those below it.
-use Rattle.std.proofs.Common.{◌≡◌, ◌≢◌, ◌⊎◌, inl, inr, ℕ, Bool, true, false, cond, ◌&&◌, ◌||◌, not, List, [], ◌∷◌, ◌++◌, Option, Some, None, refl, sym, ap, ◌∙◌, subst, Ordering}
+use Rattle.std.proofs.Common.{◌≡◌, ◌≢◌, ◌⊎◌, inl, inr, ℕ, Bool, true, false, cond, ◌||◌, not, List, [], ◌∷◌, ◌++◌, Option, Some, None, refl, sym, ap, ◌∙◌, subst, Ordering}
 use Rattle.std.specs.Prelude.{bytes_eq, filter, flat_map, filter_map}
 use Rattle.std.specs.List.{list_all, list_any}
 use Rattle.std.specs.declared.cmp.Ordering.TheVariants.{Less, Equal, Greater}
@@ -9,6 +9,7 @@ use Rattle.std.specs.Cmp.Derive.{both_true}
 use Rattle.std.specs.Cmp.Lexicographic.{slice_cmp, bytes_decides, nat_list_cmp_total}
 use Rattle.kb_world.specs.Path.{Path, path_cmp}
 use Rattle.kb_world.specs.TreeLaws.{same_path, same_path-true, same_path-refl}
+pub use Rattle.kb_store.specs.Contents.{rises}
 
 pub untrue : false ≡ true → ⊥
 untrue e = cc
@@ -16,11 +17,6 @@ untrue e = cc
 pub by_test : (b : Bool) → (b ≡ true → ⊥) → b ≡ false
 by_test true never = absurd (never refl)
 by_test false never = refl
-
--- each path is less than all behind it
-abbrev pub rises : List Path → Bool
-rises [] = true
-rises (path ∷ paths) = list_all (λ other. is_lt (path_cmp path other)) paths && rises paths
 
 abbrev pub is_in : Path → List Path → Type 0
 is_in path paths = list_any (same_path path) paths ≡ true

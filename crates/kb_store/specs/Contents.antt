@@ -1,9 +1,11 @@
 -- What a store holds, as lists in the order of paths. After the tool dkms, and this project's own.
-use Rattle.std.specs.Prelude.{ℕ, Bool, ◌&&◌, cond, List, [], ◌∷◌, length, drop, map, Option, Some, None, codes, bytes_eq, filter_map, option_and_then}
+use Rattle.std.specs.Prelude.{ℕ, Bool, true, ◌&&◌, cond, List, [], ◌∷◌, length, drop, map, Option, Some, None, codes, bytes_eq, filter_map, option_and_then}
 use Rattle.std.specs.Option.{option_map}
+use Rattle.std.specs.List.{list_all}
+use Rattle.std.specs.Ordering.{is_lt}
 use Rattle.std.specs.FinMap.{keys}
 use Rattle.kb_world.specs.Names.{is_word}
-use Rattle.kb_world.specs.Path.{Path, is_under}
+use Rattle.kb_world.specs.Path.{Path, path_cmp, is_under}
 use Rattle.kb_world.specs.Tree.{Tree, node_at, is_dir}
 use Rattle.kb_world.specs.Store.{is_key, added}
 use Rattle.kb_world.specs.Boxes.{is_spot, boxed, installed, spot_of_link, chest_path, key_of}
@@ -92,6 +94,13 @@ chest_at roots store = below_dkms roots (chest_by (chest_files roots store))
 
 abbrev pub chest_list : Roots → Tree → List Chest
 chest_list roots store = filter_map (chest_at roots store) (keys store)
+
+-- ---- the order
+
+-- each path is less than all behind it
+abbrev pub rises : List Path → Bool
+rises [] = true
+rises (path ∷ paths) = list_all (λ other. is_lt (path_cmp path other)) paths && rises paths
 
 -- ---- all of it
 

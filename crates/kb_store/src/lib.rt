@@ -3,6 +3,7 @@
 
 mod chests;
 mod entries;
+mod laws;
 mod links;
 mod notes;
 mod paths;
@@ -16,6 +17,7 @@ mod tests;
 mod walking;
 
 pub use entries::{link_at, places_at};
+pub use laws::{a_store_tells_its_parts, the_lists_of_a_store_rise};
 pub use links::spot_of_link;
 pub use place::{Places, RelPath};
 pub use private::walk_store;
