@@ -3,6 +3,7 @@ mod chests;
 mod notes;
 mod walks;
 
+use crate::links::spot_of_link;
 use crate::*;
 use std::alloc::{AllocError, Global};
 use std::process::Abort;
