@@ -1,6 +1,6 @@
 -- How a walk goes on over the entries of a directory.
 use Rattle.std.proofs.Common.{◌≡◌, ◌≤◌, ℕ, suc, zero, ◌+◌, ◌-◌, Bool, true, false, cond, ◌&&◌, ◌||◌, not, List, [], ◌∷◌, ◌++◌, length, take, drop, Option, Some, None, is_some, refl, sym, ap, ◌∙◌, arith, length-append, nat_eq}
-use Rattle.std.specs.Prelude.{IsTrue, Result, filter, flat_map, nat_le, nat_lt}
+use Rattle.std.specs.Prelude.{filter, flat_map, nat_le, nat_lt}
 use Rattle.std.specs.Option.{ForSome}
 use Rattle.std.specs.Cmp.{first_so}
 use Rattle.std.proofs.lemmas.List.{take_all}

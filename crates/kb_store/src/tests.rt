@@ -1,6 +1,9 @@
 // The file `targets` at its edges.
 mod chests;
+mod damage;
 mod notes;
+mod store;
+mod trees;
 mod walks;
 
 use crate::links::spot_of_link;
