@@ -1,6 +1,7 @@
 // The file `targets` at its edges.
 mod chests;
 mod damage;
+mod limits;
 mod notes;
 mod store;
 mod trees;
