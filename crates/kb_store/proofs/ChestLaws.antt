@@ -9,7 +9,6 @@ use Rattle.std.specs.Ordering.{is_lt, ordering_then, ordering_reverse, nat_cmp}
 use Rattle.std.specs.Cmp.{first_so, second_so, tied_itself}
 use Rattle.std.specs.Cmp.Derive.{both_true}
 use Rattle.std.specs.Cmp.Lexicographic.{slice_cmp, bytes_decides, nat_list_cmp_total}
-use Rattle.std.specs.FinMap.{slice_cmp-IsAntisymmetric, nat_cmp-IsAntisymmetric}
 use Rattle.std.proofs.lemmas.List.Elements.{filter-append}
 use Rattle.kb_world.specs.Names.{is_word}
 use Rattle.kb_world.specs.Path.{Path, path_cmp, is_under}
@@ -31,10 +30,11 @@ use Rattle.kb_store.specs.Contents.{chest_by, chest_files, chest_at, kept_paths}
 use Rattle.kb_store.specs.Chests.{is_file_kind, files_in, chest_met, chests_met}
 use Rattle.kb_store.specs.declared.store.Chest.{Chest}
 use Rattle.kb_store.specs.declared.walking.Met.{Met}
-use Rattle.kb_store.proofs.OrderLaws.{untrue, rises}
+use Rattle.kb_store.proofs.OrderLaws.{names_exact, untrue, rises}
 use Rattle.kb_store.proofs.WalkLaws.{below_more}
 use Rattle.kb_store.proofs.VisitLaws.{dir_of}
-use Rattle.kb_store.proofs.LimitLaws.{rises_below, between}
+use Rattle.kb_store.proofs.LimitLaws.{between}
+use Rattle.kb_store.proofs.MemberLaws.{entries_rise}
 
 -- ---- what is under a path stands behind it, before all that isn't
 
@@ -46,9 +46,6 @@ front_first (name ∷ q) x h = front_first q x (sym (ap (λ o. is_lt (ordering_t
 -- a lesser path isn't under a greater one
 lesser_apart : (p q : Path) → is_lt (path_cmp p q) ≡ true → is_under p q ≡ false
 lesser_apart p q h = by_test (is_under p q) (λ under. front_first q (drop (length q) p) (subst (λ r. is_lt (path_cmp r q) ≡ true) (under-split p q under) h))
-
-name_exact : (a b : List ℕ) → slice_cmp nat_cmp a b ≡ Equal → a ≡ b
-name_exact = slice_cmp-IsAntisymmetric nat_cmp-IsAntisymmetric
 
 -- behind a path that isn't under the directory nothing is under it
 past : (p q x : Path) → is_lt (path_cmp p q) ≡ true → is_under q p ≡ false → is_lt (path_cmp q (p ++ x)) ≡ true → ⊥
@@ -62,7 +59,7 @@ past (n ∷ p) (m ∷ q) x less out behind = by (slice_cmp nat_cmp n m) refl (pa
     by : (o : Ordering) → slice_cmp nat_cmp n m ≡ o → (is_lt (path_cmp p q) ≡ true → is_under q p ≡ false → is_lt (path_cmp q (p ++ x)) ≡ true → ⊥) → ⊥
     by Less e later = untrue (sym (ap (λ o. is_lt (ordering_then o (path_cmp q (p ++ x)))) (turned ∙ ap ordering_reverse e)) ∙ behind)
     by Equal e later =
-        later (sym (ap (λ o. is_lt (ordering_then o (path_cmp p q))) e) ∙ less) (sym (ap (λ b. b && is_under q p) ((bytes_decides n m).1 (name_exact n m e))) ∙ out)
+        later (sym (ap (λ o. is_lt (ordering_then o (path_cmp p q))) e) ∙ less) (sym (ap (λ b. b && is_under q p) ((bytes_decides n m).1 (names_exact n m e))) ∙ out)
         (sym (ap (λ o. is_lt (ordering_then o (path_cmp q (p ++ x)))) (turned ∙ ap ordering_reverse e)) ∙ behind)
     by Greater e later = untrue (sym (ap (λ o. is_lt (ordering_then o (path_cmp p q))) e) ∙ less)
 
@@ -174,7 +171,7 @@ pub kept_behind : (roots : Roots) → AreApart roots → (tree : Tree) (word : L
     → files_in (chest_path roots word spot) (map (met_at tree) rest) ≡ kept_paths roots tree word spot
 kept_behind roots apart tree word spot front rest worded split =
     let chest = chest_path roots word spot in
-    let order = between front chest rest (subst (λ paths. rises paths ≡ true) split (rises_below tree (is_private roots) roots.dkms)) in
+    let order = between front chest rest (subst (λ paths. rises paths ≡ true) split (entries_rise tree (is_private roots) roots.dkms)) in
     let own : is_kept tree chest chest ≡ false = ap (λ b. (is_under chest chest && not b) && is_file (node_at tree chest)) (under-self chest) ∙ and_false (is_under chest chest) (is_file (node_at tree chest)) in
     let found : filter (is_kept tree chest) (entries tree (is_private roots) roots.dkms) ≡ filter (is_kept tree chest) (keys tree) =
     filter_within (is_kept tree chest) (λ path. not (is_private roots path)) (λ path h. chest_public roots apart word spot worded path (under_of path h)) (below tree roots.dkms)

@@ -3,7 +3,7 @@
 use Rattle.std.proofs.Common.{◌≡◌, ℕ, Bool, true, false, cond, ◌&&◌, not, List, [], ◌∷◌, ◌++◌, length, drop, map, Option, Some, None, is_some, codes, refl, sym, ap, ◌∙◌, subst, append_assoc, append-nil, Ordering}
 use Rattle.std.specs.Prelude.{bytes_eq, flat_map}
 use Rattle.std.specs.List.{list_any}
-use Rattle.std.specs.FinMap.{keys, slice_cmp-IsAntisymmetric, nat_cmp-IsAntisymmetric}
+use Rattle.std.specs.FinMap.{keys}
 use Rattle.std.specs.declared.cmp.Ordering.TheVariants.{Less, Equal, Greater}
 use Rattle.std.specs.Ordering.{is_lt, ordering_then, nat_cmp}
 use Rattle.std.specs.Cmp.{first_so, second_so}
@@ -27,10 +27,11 @@ use Rattle.kb_world.proofs.PathLaws.{under-append, drop-front}
 use Rattle.kb_world.proofs.DamageLaws.{under-split, spot_of, link_names}
 use Rattle.kb_store.specs.Notes.{version_above, version_within, entries_if, version_entries}
 use Rattle.kb_store.specs.Read.{first_refusal}
-use Rattle.kb_store.proofs.OrderLaws.{in_front, untrue, by_test, is_in, in_more, rises}
+use Rattle.kb_store.proofs.OrderLaws.{in_front, untrue, names_exact, is_in, in_more, rises}
 use Rattle.kb_store.proofs.MemberLaws.{not_itself, not_both, less_through, neither_less, front_or_behind, in_filter, in_entries, entries_rise, in_left, in_right, in_either, in_flat, flat_in, in_map, rises_behind, later_than}
 use Rattle.kb_store.proofs.WalkLaws.{below_more, cmp-append}
 use Rattle.kb_store.proofs.NoteLaws.{dkms_entries, harms_told}
+use Rattle.kb_world.proofs.PathLaws.{by_test}
 
 -- ---- the least path
 
@@ -106,10 +107,6 @@ refusal_same far xs ys there back (Some h) (Some k) p q = by (is_lt (path_cmp h 
 -- what comes first, of damage and a bound, is told by the damage that is less than the bound
 pub same_refusal : (far : Path) (xs ys : List Path) → HasLesser far xs ys → HasLesser far ys xs → first_refusal (least xs) (Some far) ≡ first_refusal (least ys) (Some far)
 same_refusal far xs ys there back = refusal_same far xs ys there back (least xs) (least ys) (least_is xs) (least_is ys)
-
--- names that compare alike are one
-names_exact : (a b : List ℕ) → slice_cmp nat_cmp a b ≡ Equal → a ≡ b
-names_exact = slice_cmp-IsAntisymmetric nat_cmp-IsAntisymmetric
 
 -- ---- between two paths below a directory all are below it
 

@@ -1,22 +1,20 @@
 -- How a walk ends: everything was met, or what stands before the first path that passes a limit.
-use Rattle.std.proofs.Common.{◌≡◌, ◌⊎◌, inl, inr, ℕ, suc, ◌+◌, ◌<◌, ◌≤◌, Bool, true, false, cond, ◌&&◌, ◌||◌, not, List, [], ◌∷◌, ◌++◌, length, map, Option, Some, None, refl, sym, ap, ◌∙◌, subst, append_assoc, append-nil, arith}
-use Rattle.std.specs.Prelude.{filter, nat_le, nat_lt, IfSome}
+use Rattle.std.proofs.Common.{◌≡◌, ◌⊎◌, inl, inr, ℕ, suc, ◌+◌, ◌<◌, ◌≤◌, Bool, true, false, cond, ◌&&◌, ◌||◌, List, [], ◌∷◌, ◌++◌, length, map, Option, Some, None, refl, sym, ap, ◌∙◌, subst, append_assoc, append-nil, arith}
+use Rattle.std.specs.Prelude.{nat_le, nat_lt, IfSome}
 use Rattle.std.specs.List.{list_all}
-use Rattle.std.specs.FinMap.{keys}
 use Rattle.std.specs.Ordering.{is_lt}
 use Rattle.std.specs.Cmp.{first_so, second_so}
 use Rattle.std.specs.Cmp.Derive.{both_true}
 use Rattle.std.proofs.lemmas.Bool.{leb-true}
 use Rattle.kb_world.specs.Path.{Path, path_cmp}
-use Rattle.kb_world.specs.Roots.{is_below}
 use Rattle.kb_world.specs.Tree.{Tree, node_at, is_dir}
-use Rattle.kb_store.specs.Walking.{below, entries, met_at, passes_limit, walk_on, walked}
+use Rattle.kb_store.specs.Walking.{entries, met_at, passes_limit, walk_on, walked}
 use Rattle.kb_store.specs.declared.walking.Limits.{Limits}
 use Rattle.kb_store.specs.declared.walking.Met.{Met}
 use Rattle.kb_store.specs.declared.walking.Walk.{Walk}
 use Rattle.kb_store.proofs.OrderLaws.{untrue, rises}
-use Rattle.kb_store.proofs.WalkLaws.{rises_keys}
 use Rattle.kb_store.proofs.VisitLaws.{walk_over}
+use Rattle.kb_store.proofs.MemberLaws.{entries_rise}
 
 -- every path was met
 pub record IsWhole (tree : Tree) (first : List Met) (paths : List Path) (walk : Walk) : Type 0 where
@@ -143,27 +141,6 @@ unlimited limits tree skips start walk is few short = by walk.over refl short
 
 -- ---- the order of the entries
 
-all_filter : (test keeps : Path → Bool) (paths : List Path) → list_all test paths ≡ true → list_all test (filter keeps paths) ≡ true
-all_filter test keeps [] all = refl
-all_filter test keeps (path ∷ paths) all = by (keeps path) (all_filter test keeps paths (second_so (test path) (list_all test paths) all))
-  where
-    by : (b : Bool) → list_all test (filter keeps paths) ≡ true → list_all test (cond b (path ∷ filter keeps paths) (filter keeps paths)) ≡ true
-    by true later = both_true (first_so (test path) (list_all test paths) all) later
-    by false later = later
-
--- some of the paths of a list that rises
-pub rises_filter : (keeps : Path → Bool) (paths : List Path) → rises paths ≡ true → rises (filter keeps paths) ≡ true
-rises_filter keeps [] up = refl
-rises_filter keeps (path ∷ paths) up = by (keeps path) (rises_filter keeps paths (second_so (list_all (λ other. is_lt (path_cmp path other)) paths) (rises paths) up))
-  where
-    by : (b : Bool) → rises (filter keeps paths) ≡ true → rises (cond b (path ∷ filter keeps paths) (filter keeps paths)) ≡ true
-    by true later = both_true (all_filter (λ other. is_lt (path_cmp path other)) keeps paths (first_so (list_all (λ other. is_lt (path_cmp path other)) paths) (rises paths) up)) later
-    by false later = later
-
--- the entries of a directory stand in the order of paths
-pub rises_below : (tree : Tree) (skips : Path → Bool) (start : Path) → rises (entries tree skips start) ≡ true
-rises_below tree skips start = rises_filter (λ path. not (skips path)) (below tree start) (rises_filter (λ path. is_below path start) (keys tree) (rises_keys tree))
-
 -- What stands before a path of a list that rises is less than it. What stands behind it is greater, and rises.
 pub record IsBetween (before : List Path) (far : Path) (behind : List Path) : Type 0 where
   pub less : list_all (λ path. is_lt (path_cmp path far)) before ≡ true
@@ -187,4 +164,4 @@ between (path ∷ before) far behind up =
 
 -- the path that a walk ends at stands between the entries before it and those behind it
 pub front_between : (limits : Limits) (tree : Tree) (skips : Path → Bool) (start far : Path) (front : IsFront limits tree skips start far) → IsBetween front.before far front.behind
-front_between limits tree skips start far front = between front.before far front.behind (subst (λ paths. rises paths ≡ true) front.split (rises_below tree skips start))
+front_between limits tree skips start far front = between front.before far front.behind (subst (λ paths. rises paths ≡ true) front.split (entries_rise tree skips start))

@@ -1,5 +1,5 @@
 -- The names of spots' links, and their cut at the last dash.
-use Rattle.std.proofs.Common.{◌≡◌, ◌≢◌, ℕ, suc, zero, ◌+◌, ◌<◌, Bool, true, false, cond, ◌&&◌, List, [], ◌∷◌, ◌++◌, length, take, drop, get_or, nat_eq, Option, Some, None, Result, Ok, Err, codes, refl, sym, ap, ◌∙◌, subst, arith, lit<, Bor, ◌≤◌}
+use Rattle.std.proofs.Common.{◌≡◌, ◌≢◌, ℕ, suc, ◌+◌, ◌<◌, false, cond, List, [], ◌∷◌, ◌++◌, length, take, drop, get_or, nat_eq, Option, Some, None, codes, refl, sym, ap, ◌∙◌, subst, arith, lit<, Bor, ◌≤◌}
 use Rattle.std.proofs.lemmas.Bool.{eqb-true}
 use Rattle.std.proofs.lemmas.List.{take-append-drop}
 use Rattle.std.proofs.lemmas.Str.Pattern.{NoCharPasses-char, drop_at_char}
@@ -10,14 +10,10 @@ use Rattle.std.specs.List.{starts_with}
 use Rattle.std.specs.Str.{byte}
 use Rattle.std.specs.Cmp.Lexicographic.{bytes_decides}
 use Rattle.kb_world.specs.Boxes.{cut_with, cut_at_dash, spot_if, spot_of_link}
-use Rattle.kb_world.specs.declared.job.Spot.{Spot}
+use Rattle.kb_world.proofs.PathLaws.{by_test}
 
 abbrev DASH : ℕ
 DASH = byte "-"
-
-by_test : (b : Bool) → (b ≡ true → ⊥) → b ≡ false
-by_test true never = absurd (never refl)
-by_test false never = refl
 
 -- a text without a dash isn't cut
 pub uncut : (text : List ℕ) → ((i : ℕ) → i < length text → get_or text i 0 ≢ 45) → cut_at_dash text ≡ None

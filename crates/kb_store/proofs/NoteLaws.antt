@@ -30,17 +30,12 @@ use Rattle.kb_world.proofs.PublicLaws.{in_dkms}
 use Rattle.kb_store.specs.Contents.{build_of, build_by, build_at, installation_of, installation_by, installation_at, chest_by, chest_at, chest_files}
 use Rattle.kb_store.specs.Notes.{told_build, told_installation}
 use Rattle.kb_store.specs.Walking.{below, entries}
-use Rattle.kb_store.proofs.OrderLaws.{untrue}
+use Rattle.kb_store.proofs.OrderLaws.{not_true, untrue}
 use Rattle.kb_store.proofs.WalkLaws.{below_more}
 
 -- the paths below the dkms root that aren't private
 abbrev pub dkms_entries : Roots → Tree → List Path
 dkms_entries roots tree = entries tree (is_private roots) roots.dkms
-
--- a test whose negation holds fails
-pub not_true : (b : Bool) → not b ≡ true → b ≡ false
-not_true true h = absurd (untrue (h))
-not_true false h = refl
 
 -- ---- lists
 

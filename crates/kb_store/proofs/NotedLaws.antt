@@ -1,12 +1,11 @@
 -- What is noted at a path, by its names below the dkms root.
-use Rattle.std.proofs.Common.{◌≡◌, ℕ, Bool, true, false, cond, ◌&&◌, not, List, [], ◌∷◌, ◌++◌, length, drop, codes, Option, Some, None, is_some, refl, sym, ap, ◌∙◌}
+use Rattle.std.proofs.Common.{◌≡◌, ℕ, Bool, true, false, cond, ◌&&◌, List, [], ◌∷◌, ◌++◌, length, drop, codes, Option, Some, None, is_some, refl, sym, ap, ◌∙◌}
 use Rattle.std.proofs.lemmas.List.{append-nil}
 use Rattle.std.specs.Prelude.{bytes_eq, option_and_then, OnOk, Result, Ok, Err}
 use Rattle.std.specs.Option.{option_map, ForSome}
-use Rattle.std.specs.Cmp.{first_so, second_so}
 use Rattle.std.specs.Cmp.Lexicographic.{bytes_decides}
 use Rattle.kb_world.specs.Names.{is_word}
-use Rattle.kb_world.specs.Path.{Path, is_under}
+use Rattle.kb_world.specs.Path.{Path}
 use Rattle.kb_world.specs.Tree.{Tree, node_at}
 use Rattle.kb_world.specs.Store.{is_key, is_added, link_path, package_of, added_at}
 use Rattle.kb_world.specs.Boxes.{is_spot, targets_path, places_at, spot_of_link, kernel_link_path, linked_at, key_of}
@@ -18,7 +17,7 @@ use Rattle.kb_world.proofs.PathLaws.{under-append, drop-front}
 use Rattle.kb_world.proofs.DamageLaws.{link_names, spot_of}
 use Rattle.kb_world.proofs.SpotLaws.{link_named}
 use Rattle.kb_store.specs.Contents.{below_dkms, build_by, build_of, installation_by, installation_of}
-use Rattle.kb_store.specs.Notes.{told_build, told_installation, list_of, first_of_two, noted, harmed, source_noted, version_noted, link_noted, absence_noted, files_noted, places_noted, box_noted}
+use Rattle.kb_store.specs.Notes.{list_of, first_of_two, noted, harmed, source_noted, version_noted, link_noted, places_noted, box_noted}
 use Rattle.kb_store.specs.declared.store.Build.{Build}
 use Rattle.kb_store.specs.declared.store.Installation.{Installation}
 use Rattle.kb_store.specs.declared.notes.Notes.{Notes}

@@ -1,5 +1,5 @@
 -- How noting goes on over paths.
-use Rattle.std.proofs.Common.{◌≡◌, ℕ, ◌+◌, Bool, not, List, [], ◌∷◌, ◌++◌, codes, map, take, Option, Some, Result, refl, sym, ap, ◌∙◌, append_assoc}
+use Rattle.std.proofs.Common.{◌≡◌, ℕ, ◌+◌, not, List, [], ◌∷◌, ◌++◌, codes, map, take, Some, Result, sym, ap, ◌∙◌, append_assoc}
 use Rattle.std.proofs.lemmas.List.{map-append}
 use Rattle.std.proofs.lemmas.List.Elements.{filter-append}
 use Rattle.std.specs.Prelude.{filter, option_and_then}
@@ -8,7 +8,7 @@ use Rattle.kb_world.specs.Path.{Path, child}
 use Rattle.kb_world.specs.Tree.{Tree, node_at, is_file}
 use Rattle.kb_world.specs.State.{State, Looks}
 use Rattle.kb_world.specs.Targets.{last_name, targets_of}
-use Rattle.kb_world.specs.Boxes.{in_box, module_file, targets_path, places_at, key_of}
+use Rattle.kb_world.specs.Boxes.{in_box, targets_path}
 use Rattle.kb_world.specs.Tree.{file_bytes}
 use Rattle.kb_world.specs.declared.roots.Roots.{Roots}
 use Rattle.kb_world.specs.declared.job.Key.{Key}

@@ -10,13 +10,16 @@ use Rattle.std.specs.Cmp.Lexicographic.{slice_cmp, bytes_decides, nat_list_cmp_t
 use Rattle.kb_world.specs.Path.{Path, path_cmp}
 use Rattle.kb_world.specs.TreeLaws.{same_path, same_path-true, same_path-refl}
 pub use Rattle.kb_store.specs.Contents.{rises}
+use Rattle.kb_world.proofs.PathLaws.{by_test}
+use Rattle.std.specs.FinMap.{slice_cmp-IsAntisymmetric, nat_cmp-IsAntisymmetric}
 
 pub untrue : false ≡ true → ⊥
 untrue e = cc
 
-pub by_test : (b : Bool) → (b ≡ true → ⊥) → b ≡ false
-by_test true never = absurd (never refl)
-by_test false never = refl
+-- a test whose negation holds fails
+pub not_true : (b : Bool) → not b ≡ true → b ≡ false
+not_true true h = absurd (untrue h)
+not_true false h = refl
 
 abbrev pub is_in : Path → List Path → Type 0
 is_in path paths = list_any (same_path path) paths ≡ true
@@ -56,6 +59,11 @@ not_lt order e h = untrue (sym (ap is_lt e) ∙ h)
 pub deeper : (name next : List ℕ) (rest : Path) → is_lt (path_cmp (name ∷ next ∷ rest) (name ∷ [])) ≡ true → ⊥
 deeper name next rest h = not_lt (path_cmp (name ∷ next ∷ rest) (name ∷ [])) (ap (λ o. ordering_then o Greater) (name_itself name)) h
 
+-- names that compare alike are one
+pub names_exact : (a b : List ℕ) → slice_cmp nat_cmp a b ≡ Equal → a ≡ b
+names_exact = slice_cmp-IsAntisymmetric nat_cmp-IsAntisymmetric
+
+-- the order in which the first is less
 pub less : (o : Ordering) → is_lt o ≡ true → o ≡ Less
 less Less h = refl
 less Equal h = absurd (untrue h)
@@ -129,10 +137,6 @@ same_groups first next rest paths (name ∷ names) h =
     let apart = not_true (bytes_eq name first) (first_so (not (bytes_eq name first)) (list_all (λ name. not (bytes_eq name first)) names) h) in
     let later = same_groups first next rest paths names (second_so (not (bytes_eq name first)) (list_all (λ name. not (bytes_eq name first)) names) h) in
     ap (λ b. ((name ∷ []) ∷ cond b ((first ∷ next ∷ rest) ∷ beyond name paths) (beyond name paths)) ++ grouped ((first ∷ next ∷ rest) ∷ paths) names) apart ∙ ap (λ g. ((name ∷ []) ∷ beyond name paths) ++ g) later
-  where
-    not_true : (b : Bool) → not b ≡ true → b ≡ false
-    not_true true h = absurd (untrue h)
-    not_true false h = refl
 
 -- behind a greater entry nothing is below a lesser one
 nothing_beyond : (name entry : List ℕ) (paths : List Path) → is_lt (path_cmp (name ∷ []) (entry ∷ [])) ≡ true → list_all (λ other. is_lt (path_cmp (entry ∷ []) other)) paths ≡ true → beyond name paths ≡ []

@@ -1,24 +1,23 @@
 -- Where the parts of a store stand, and what their links say.
-use Rattle.std.proofs.Common.{◌≡◌, ℕ, ◌+◌, ◌-◌, ◌≤◌, Bool, true, false, cond, ◌&&◌, not, List, [], ◌∷◌, ◌++◌, length, take, drop, nat_eq, nat_le, codes, Option, Some, None, refl, sym, ap, ◌∙◌, subst, arith, append_assoc, length-append}
-use Rattle.std.specs.Prelude.{bytes_eq, option_and_then, IsTrue, IfSome}
+use Rattle.std.proofs.Common.{◌≡◌, ℕ, ◌-◌, Bool, true, false, cond, ◌&&◌, not, List, [], ◌∷◌, ◌++◌, length, take, nat_eq, nat_le, codes, Option, Some, None, refl, sym, ap, ◌∙◌, subst, arith, append_assoc, length-append}
+use Rattle.std.specs.Prelude.{bytes_eq, IsTrue, IfSome}
 use Rattle.std.specs.List.{list_all}
 use Rattle.std.specs.Cmp.{first_so, second_so}
 use Rattle.std.specs.Cmp.Derive.{both_true}
 use Rattle.std.specs.Cmp.Lexicographic.{bytes_decides}
 use Rattle.std.proofs.lemmas.Bool.{eqb-true, leb-true, le-leb}
 use Rattle.std.proofs.Math.Seq.{take-append_seam}
-use Rattle.std.proofs.lemmas.List.{take-append-drop}
-use Rattle.std.proofs.lemmas.List.Folds.{list_all-append}
 use Rattle.kb_world.specs.Names.{is_name, is_word, is_version, is_kernel, is_arch, is_one_of}
 use Rattle.kb_world.specs.Path.{Path, child}
 use Rattle.kb_world.specs.Store.{is_key, version_path}
-use Rattle.kb_world.specs.Boxes.{is_spot, in_box, spot_tail, kernel_link_text, version_of, key_of}
-use Rattle.kb_world.specs.Targets.{targets_of, is_area, is_place, is_module_file, leads_to_module, last_name, are_targets}
+use Rattle.kb_world.specs.Boxes.{in_box, spot_tail, kernel_link_text, version_of}
+use Rattle.kb_world.specs.Targets.{targets_of, is_area, is_place, leads_to_module, last_name}
 use Rattle.kb_world.specs.declared.roots.Roots.{Roots}
 use Rattle.kb_world.specs.declared.job.Key.{Key}
 use Rattle.kb_world.specs.declared.job.Spot.{Spot}
-use Rattle.kb_world.proofs.NameLaws.{word-is_name, version-is_word, joined-is_name, is_name_byte, known, named, begins-append}
+use Rattle.kb_world.proofs.NameLaws.{word-is_name, version-is_word, joined-is_name, is_name_byte}
 use Rattle.kb_world.proofs.TargetsLaws.{read}
+use Rattle.kb_store.proofs.PlaceLaws.{file_named}
 
 -- ---- names
 
@@ -105,17 +104,6 @@ no_version spot text none = by (take (length text - length (spot_tail spot)) tex
 pub placed : (text : List ℕ) (told : Option (List Path)) → targets_of text ≡ told → IfSome told (λ places. IsTrue (list_all is_place places))
 placed text None e = tt
 placed text (Some places) e = second_so _ (list_all is_place places) (first_so _ _ (read text places e).0)
-
--- the name of a module's file can name an entry of a directory
-file_named : (name : List ℕ) → is_module_file name ≡ true → is_name name ≡ true
-file_named name h =
-    let front = take (length name - 3) name in
-    let back = drop (length name - 3) name in
-    let is : name ≡ front ++ codes ".ko" = sym (take-append-drop (length name - 3) name) ∙ ap (λ b. front ++ b) ((bytes_decides back (codes ".ko")).0 (second_so (is_word front) (bytes_eq back (codes ".ko")) h)) in
-    let w = known front (first_so (is_word front) (bytes_eq back (codes ".ko")) h) in
-    named_as name (front ++ codes ".ko") is
-    (named (front ++ codes ".ko") (omega (arith, w.short, length-append front (codes ".ko"))) (begins-append front (codes ".ko") w.begins)
-    (list_all-append (is_one_of (codes "._+-~^:")) front (codes ".ko") ∙ both_true w.bytes refl))
 
 leads_named : (names : Path) → leads_to_module names ≡ true → is_name (last_name names) ≡ true
 leads_named [] h = let impossible : true ≡ false = sym h in cc

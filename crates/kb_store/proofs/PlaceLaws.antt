@@ -12,6 +12,7 @@ use Rattle.kb_world.specs.Names.{is_word, is_name, is_one_of}
 use Rattle.kb_world.specs.Path.{Path}
 use Rattle.kb_world.specs.Targets.{is_module_file, leads_to_module, is_area, is_place, last_name}
 use Rattle.kb_world.proofs.NameLaws.{known, named, begins-append, word-is_name}
+use Rattle.kb_world.proofs.PathLaws.{by_test}
 
 and_true : (a : Bool) → (a && true) ≡ a
 and_true true = refl
@@ -24,10 +25,6 @@ module_file_is name front e =
     ap is_module_file e ∙ ap (λ n. is_word (take n (front ++ codes ".ko")) && bytes_eq (drop n (front ++ codes ".ko")) (codes ".ko")) long
     ∙ ap (λ f. is_word f && bytes_eq (drop (length front) (front ++ codes ".ko")) (codes ".ko")) (take-append_seam front (codes ".ko"))
     ∙ ap (λ b. is_word front && bytes_eq b (codes ".ko")) (drop-append_seam front (codes ".ko")) ∙ and_true (is_word front)
-
-by_test : (b : Bool) → (b ≡ true → ⊥) → b ≡ false
-by_test true never = absurd (never refl)
-by_test false never = refl
 
 pub module_file_none : (name : List ℕ) → ((front : List ℕ) → name ≡ front ++ codes ".ko" → ⊥) → is_module_file name ≡ false
 module_file_none name none = by_test (is_module_file name) (λ h.
@@ -69,7 +66,7 @@ leads_both (x ∷ y ∷ rest) d h =
     ap (λ r. is_word x.now && leads_to_module (now r)) (sym all)
 
 -- a word with the ending names an entry of a directory
-file_named : (name : List ℕ) → is_module_file name ≡ true → is_name name ≡ true
+pub file_named : (name : List ℕ) → is_module_file name ≡ true → is_name name ≡ true
 file_named name h =
     let front = take (length name - 3) name in
     let back = drop (length name - 3) name in

@@ -29,13 +29,13 @@ use Rattle.kb_world.proofs.PublicLaws.{in_dkms, shown, written_apart, IsAlwaysPu
 use Rattle.kb_store.specs.Contents.{build_at, installation_at, chest_at, chest_files, store_of}
 use Rattle.kb_store.specs.Notes.{told_build, told_installation}
 use Rattle.kb_store.specs.Read.{read_of, over, first_refusal, unless}
-use Rattle.kb_store.specs.Walking.{entries, walked, walk_on, meets, LIMITS}
+use Rattle.kb_store.specs.Walking.{walked, walk_on, meets, LIMITS}
 use Rattle.kb_store.specs.declared.walking.Limits.{Limits}
 use Rattle.kb_store.specs.declared.walking.Walk.{Walk}
-use Rattle.kb_store.proofs.OrderLaws.{in_front, untrue, is_in, in_more}
+use Rattle.kb_store.proofs.OrderLaws.{not_true, in_front, untrue, is_in, in_more}
 use Rattle.kb_store.proofs.MemberLaws.{in_filter, in_entries, entries_rise, rises_filter, map_same, same_members}
 use Rattle.kb_store.proofs.WalkLaws.{rises_keys, standing}
-use Rattle.kb_store.proofs.NoteLaws.{linked_version, dkms_entries, not_true, may_tell, word_tells, kernel_plain, source_plain, chest_plain, open_same, then_same, build_same, installation_same, chest_same, added_told, builds_held, installations_held, chests_held, harms_told}
+use Rattle.kb_store.proofs.NoteLaws.{linked_version, dkms_entries, may_tell, word_tells, kernel_plain, source_plain, chest_plain, open_same, then_same, build_same, installation_same, chest_same, added_told, builds_held, installations_held, chests_held, harms_told}
 
 -- ---- below the dkms root a path is public exactly where it isn't private
 

@@ -1,5 +1,5 @@
 -- What a store that was read is.
-use Rattle.std.proofs.Common.{◌≡◌, Option, Some, None, Result, Ok, Err, refl, ap, sym, ◌∙◌, cond}
+use Rattle.std.proofs.Common.{◌≡◌, Option, Some, None, Ok, Err, refl}
 use Rattle.kb_world.specs.Path.{Path}
 use Rattle.kb_world.specs.Tree.{Tree}
 use Rattle.kb_world.specs.Damage.{hurt}
@@ -13,7 +13,8 @@ unrefused : (due : Option Refusal) (store told : Store) → unless due store ≡
 unrefused None store told h = refl
 unrefused (Some why) store told h = let impossible : Err why ≡ Ok told = h in cc
 
-unhurt : (harm far : Option Path) → first_refusal harm far ≡ None → harm ≡ None
+-- no refusal is due where nothing is damaged
+pub unhurt : (harm far : Option Path) → first_refusal harm far ≡ None → harm ≡ None
 unhurt None far h = refl
 unhurt (Some path) None h = absurd (cc)
 unhurt (Some path) (Some far) h = absurd (cc)

@@ -17,7 +17,7 @@ use Rattle.kb_world.specs.declared.world.WorldError.{WorldError}
 use Rattle.kb_world.specs.declared.world.WorldError.TheVariants.{Failed}
 use Rattle.kb_world.proofs.DamageLaws.{under-split}
 use Rattle.kb_world.proofs.DoesLaws.{cause_then, ran_none_then}
-use Rattle.kb_world.specs.Public.{is_private, public_tree}
+use Rattle.kb_world.specs.Public.{is_private}
 use Rattle.kb_world.specs.Roots.{AreApart, is_below}
 use Rattle.kb_world.specs.Store.{added_at}
 use Rattle.kb_world.specs.Damage.{hurt, least, harm_at}
@@ -27,7 +27,7 @@ use Rattle.kb_world.specs.declared.refusal.Refusal.{Refusal}
 use Rattle.kb_store.specs.Contents.{build_at, installation_at, chest_at, store_of}
 use Rattle.kb_store.specs.Notes.{told_build, told_installation, noted, noted_all, no_notes, notes_of, version_above, version_within, version_entries}
 use Rattle.kb_store.specs.Read.{first_refusal, over, store_refusal, unless, read_of, entries_over, paths_met, IsReading, IsWholeReading}
-use Rattle.kb_store.specs.Walking.{walked, LIMITS, entries, met_at}
+use Rattle.kb_store.specs.Walking.{walked, LIMITS, met_at}
 use Rattle.kb_store.specs.declared.notes.Notes.{Notes}
 use Rattle.kb_store.specs.declared.read.Reading.{Reading}
 use Rattle.kb_store.specs.declared.store.Build.{Build}
@@ -43,6 +43,7 @@ use Rattle.kb_store.proofs.OrderLaws.{is_in, in_front, in_more}
 use Rattle.kb_store.proofs.TellLaws.{noted_all_is}
 use Rattle.kb_store.proofs.WalkLaws.{dir_above, standing}
 use Rattle.kb_store.proofs.NoteLaws.{dkms_entries, added_told, builds_told, installations_told, chests_held, harms_told, told_builds_held, told_installations_held}
+use Rattle.kb_store.proofs.ReadLaws.{unhurt}
 
 -- the paths of entries are the entries
 pub paths_of_met : (tree : Tree) (paths : List Path) → paths_met (map (met_at tree) paths) ≡ paths
@@ -121,11 +122,6 @@ unfolding read_of
 answer_read roots apart tree reading store is none same = ap (λ due. unless due (store_of roots tree)) (sym (refusal_is roots apart tree reading is) ∙ none) ∙ ap Ok (sym same)
 
 -- no refusal is due where nothing is damaged and no limit passed
-unhurt : (harm far : Option Path) → first_refusal harm far ≡ None → harm ≡ None
-unhurt None far h = refl
-unhurt (Some path) None h = absurd (cc)
-unhurt (Some path) (Some far) h = absurd (cc)
-
 unpassed : (harm far : Option Path) → first_refusal harm far ≡ None → far ≡ None
 unpassed None None h = refl
 unpassed None (Some far) h = absurd (cc)

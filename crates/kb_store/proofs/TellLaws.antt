@@ -1,11 +1,10 @@
 -- What is noted at each path, put together.
-use Rattle.std.proofs.Common.{◌≡◌, Bool, true, false, cond, List, [], ◌∷◌, ◌++◌, Option, Some, None, refl, sym, ap, ap₂, ◌∙◌, append_assoc}
+use Rattle.std.proofs.Common.{◌≡◌, Bool, true, false, cond, List, [], ◌∷◌, ◌++◌, Option, Some, None, refl, sym, ap, ◌∙◌, append_assoc}
 use Rattle.std.proofs.lemmas.List.{append-nil}
-use Rattle.std.specs.Prelude.{flat_map, filter_map, fold}
+use Rattle.std.specs.Prelude.{flat_map, filter_map}
 use Rattle.std.specs.declared.cmp.Ordering.{Ordering}
 use Rattle.std.specs.declared.cmp.Ordering.TheVariants.{Less, Equal, Greater}
 use Rattle.std.specs.Ordering.{is_lt, is_le, ordering_reverse}
-use Rattle.std.specs.Cmp.{IsTotalOrder}
 use Rattle.std.specs.BTreeMap.Comparable.{le_lt_trans}
 use Rattle.kb_world.specs.Path.{Path, path_cmp}
 use Rattle.kb_world.specs.Tree.{Tree}
@@ -13,19 +12,12 @@ use Rattle.kb_world.specs.TreeLaws.{paths_total}
 use Rattle.kb_world.specs.Store.{added_at}
 use Rattle.kb_world.specs.Damage.{least, harm_at}
 use Rattle.kb_world.specs.declared.roots.Roots.{Roots}
-use Rattle.kb_store.specs.Notes.{told_build, told_installation, list_of, first_of_two, noted, noted_all, notes_of, no_notes, harmed}
+use Rattle.kb_store.specs.Notes.{told_build, told_installation, list_of, first_of_two, noted, noted_all, notes_of, no_notes}
 use Rattle.kb_store.specs.declared.notes.Notes.{Notes}
+use Rattle.kb_store.proofs.OrderLaws.{less}
+use Rattle.kb_store.proofs.MemberLaws.{less_then}
 
 -- ---- the first of paths
-
-less_is : (order : Ordering) → is_lt order ≡ true → order ≡ Less
-less_is Less e = refl
-less_is Equal e = let impossible : true ≡ false = sym e in cc
-less_is Greater e = let impossible : true ≡ false = sym e in cc
-
--- a path before one that is before a third is before that
-before_then : (a b c : Path) → is_lt (path_cmp a b) ≡ true → is_lt (path_cmp b c) ≡ true → is_lt (path_cmp a c) ≡ true
-before_then a b c e f = ap is_lt (paths_total.trans a b c (less_is (path_cmp a b) e) (less_is (path_cmp b c) f))
 
 le_of : (order other : Ordering) → order ≡ ordering_reverse other → is_lt other ≡ false → is_le order ≡ true
 le_of order Less e h = let impossible : true ≡ false = h in cc
@@ -39,8 +31,8 @@ not_before a b c e f = by (is_lt (path_cmp a c)) refl
     by : (v : Bool) → is_lt (path_cmp a c) ≡ v → is_lt (path_cmp a c) ≡ false
     by false h = h
     by true h =
-        let less : path_cmp b c ≡ Less = le_lt_trans paths_total b a c (le_of (path_cmp b a) (path_cmp a b) (paths_total.antisymm b a) e) (less_is (path_cmp a c) h) in
-        absurd (clash (sym (ap is_lt less) ∙ f))
+        let before : path_cmp b c ≡ Less = le_lt_trans paths_total b a c (le_of (path_cmp b a) (path_cmp a b) (paths_total.antisymm b a) e) (less (path_cmp a c) h) in
+        absurd (clash (sym (ap is_lt before) ∙ f))
       where
         clash : true ≡ false → ⊥
         clash x = cc
@@ -59,7 +51,7 @@ first_assoc (Some a) (Some b) (Some c) = ap (λ p. Some p) (by (is_lt (path_cmp 
   where
     by : (x y z : Bool) → is_lt (path_cmp b a) ≡ x → is_lt (path_cmp c b) ≡ y → is_lt (path_cmp c a) ≡ z
         → cond (is_lt (path_cmp c (cond x b a))) c (cond x b a) ≡ cond (is_lt (path_cmp (cond y c b) a)) (cond y c b) a
-    by true true z e f h = ap (λ v. cond v c b) f ∙ sym (ap (λ v. cond v c a) (before_then c b a f e))
+    by true true z e f h = ap (λ v. cond v c b) f ∙ sym (ap (λ v. cond v c a) (less_then c b a f e))
     by true false z e f h = ap (λ v. cond v c b) f ∙ sym (ap (λ v. cond v b a) e)
     by false true z e f h = refl
     by false false z e f h = ap (λ v. cond v c a) (not_before c b a f e) ∙ sym (ap (λ v. cond v b a) e)

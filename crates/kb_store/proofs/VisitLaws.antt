@@ -1,6 +1,6 @@
 -- How a walk goes on over the entries of a directory.
 use Rattle.std.proofs.Common.{◌≡◌, ◌≤◌, ℕ, suc, zero, ◌+◌, ◌-◌, Bool, true, false, cond, ◌&&◌, ◌||◌, not, List, [], ◌∷◌, ◌++◌, length, take, drop, Option, Some, None, is_some, refl, sym, ap, ◌∙◌, arith, length-append, nat_eq}
-use Rattle.std.specs.Prelude.{IsTrue, Result, filter, flat_map, nat_le, nat_lt}
+use Rattle.std.specs.Prelude.{filter, flat_map, nat_le, nat_lt}
 use Rattle.std.specs.Option.{ForSome}
 use Rattle.std.specs.Cmp.{first_so}
 use Rattle.std.proofs.lemmas.List.{take_all}
@@ -11,37 +11,16 @@ use Rattle.kb_world.specs.Roots.{is_below}
 use Rattle.kb_world.proofs.DamageLaws.{under-split}
 use Rattle.kb_world.specs.Path.{Path, child, is_under}
 use Rattle.kb_world.specs.Tree.{Tree, node_at, is_dir, kind_of, children, IsFormed}
-use Rattle.kb_world.specs.State.{State, Looks, RanNone}
+use Rattle.kb_world.specs.State.{State}
 use Rattle.kb_world.specs.declared.tree.Kind.{Kind}
 use Rattle.kb_world.specs.declared.tree.Kind.TheVariants as kind
 use Rattle.kb_world.specs.declared.tree.Node.{Node}
 use Rattle.kb_world.specs.declared.tree.Node.TheVariants as node
-use Rattle.kb_world.specs.declared.world.WorldError.{WorldError}
-use Rattle.kb_world.proofs.DoesLaws.{ran_none_then}
 use Rattle.kb_store.specs.Walking.{below, entries, entry_block, passes_limit, meets, walk_on, is_dir_kind}
 use Rattle.kb_store.specs.declared.walking.Met.{Met}
 use Rattle.kb_store.specs.declared.walking.Walk.{Walk}
+use Rattle.kb_store.proofs.LookLaws.{Quiet}
 use Rattle.kb_store.proofs.WalkLaws.{below_entries, below_leaf}
-
--- ---- calls that only look, one after another
-
--- since then nothing was done but looks that succeeded
-pub record Quiet (old new : State) : Type 0 where
-  pub tree : new.tree ≡ old.tree
-  pub ran_none : RanNone old new
-  pub later : old.faults ≤ new.faults
-  pub steady : IsTrue old.steady → IsTrue new.steady
-
-pub quiet_none : (state : State) → Quiet state state
-quiet_none state = record { tree = refl; ran_none = record { ran = refl; lasts = record { roots = refl; script = refl; told = refl } }; later = omega arith; steady = λ is. is }
-
-pub quiet_then : {T : Type 0} (old mid new : State) (result : Result T WorldError) → Quiet old mid → Looks mid new result → Quiet old new
-quiet_then old mid new result a b = record {
-  tree = b.tree ∙ a.tree;
-  ran_none = ran_none_then old mid new a.ran_none b.ran_none;
-  later = omega (arith, a.later, b.cause.later);
-  steady = λ is. b.cause.steady (a.steady is);
-}
 
 -- ---- the walk
 

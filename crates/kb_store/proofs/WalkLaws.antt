@@ -18,7 +18,8 @@ use Rattle.kb_world.proofs.PathLaws.{under-append, under-beside, drop-front}
 use Rattle.kb_world.proofs.StepLaws.{parent-child}
 use Rattle.kb_world.proofs.DamageLaws.{under-split}
 use Rattle.kb_store.specs.Walking.{below}
-use Rattle.kb_store.proofs.OrderLaws.{untrue, by_test, rises, is_in, in_more, sole, is_beyond, beyond, heads, grouped, IsClosed, in_groups}
+use Rattle.kb_store.proofs.OrderLaws.{untrue, rises, is_in, in_more, sole, is_beyond, beyond, heads, grouped, IsClosed, in_groups}
+use Rattle.kb_world.proofs.PathLaws.{by_test}
 
 -- ---- the paths of a tree rise
 

@@ -1,5 +1,5 @@
 -- What is below a private path is private.
-use Rattle.std.proofs.Common.{◌≡◌, Bool, true, false, ◌&&◌, ◌||◌, List, [], ◌∷◌, ◌++◌, length, drop, refl, sym, ap, ◌∙◌, subst, append_assoc}
+use Rattle.std.proofs.Common.{◌≡◌, Bool, true, false, ◌&&◌, ◌||◌, List, [], ◌∷◌, ◌++◌, length, drop, refl, sym, ap, ◌∙◌, append_assoc}
 use Rattle.std.specs.List.{list_any}
 use Rattle.std.specs.Cmp.{first_so, second_so}
 use Rattle.std.specs.Cmp.Derive.{both_true}
@@ -14,6 +14,10 @@ under_more path directory more h =
     let rest = drop (length directory) path in
     ap (λ p. is_under (p ++ more) directory) (under-split path directory h) ∙ ap (λ p. is_under p directory) (append_assoc directory rest more) ∙ under-append directory (rest ++ more)
 
+or_right : (a b : Bool) → b ≡ true → (a || b) ≡ true
+or_right true b e = refl
+or_right false b e = e
+
 any_more : (path more : Path) (places : List Path) → list_any (is_under path) places ≡ true → list_any (is_under (path ++ more)) places ≡ true
 any_more path more [] h = h
 any_more path more (place ∷ places) h = by (is_under path place) refl (λ later. any_more path more places later)
@@ -21,10 +25,6 @@ any_more path more (place ∷ places) h = by (is_under path place) refl (λ late
     by : (b : Bool) → is_under path place ≡ b → (list_any (is_under path) places ≡ true → list_any (is_under (path ++ more)) places ≡ true) → (is_under (path ++ more) place || list_any (is_under (path ++ more)) places) ≡ true
     by true e rest = ap (λ b. b || list_any (is_under (path ++ more)) places) (under_more path place more e)
     by false e rest = or_right (is_under (path ++ more) place) (list_any (is_under (path ++ more)) places) (rest (sym (ap (λ b. b || list_any (is_under path) places) e) ∙ h))
-      where
-        or_right : (a b : Bool) → b ≡ true → (a || b) ≡ true
-        or_right true b e = refl
-        or_right false b e = e
 
 scratch_more : (names more : Path) → is_scratch names ≡ true → is_scratch (names ++ more) ≡ true
 scratch_more [] more h = let impossible : true ≡ false = sym h in cc
@@ -43,10 +43,6 @@ in_scratch_more path dkms more h =
 pub private_below : (roots : Roots) (path more : Path) → is_private roots path ≡ true → is_private roots (path ++ more) ≡ true
 private_below roots path more h = by (list_any (is_under path) (private_places roots)) refl
   where
-    or_right : (a b : Bool) → b ≡ true → (a || b) ≡ true
-    or_right true b e = refl
-    or_right false b e = e
-
     by : (b : Bool) → list_any (is_under path) (private_places roots) ≡ b → is_private roots (path ++ more) ≡ true
     by true e = ap (λ b. b || is_under (path ++ more) roots.dkms && is_scratch (drop (length roots.dkms) (path ++ more))) (any_more path more (private_places roots) e)
     by false e =

@@ -1,4 +1,5 @@
-//! What stands below the dkms root: the file `targets` of a build.
+//! What stands below the dkms root, read as a store: the added packages, the builds, the installed versions and the
+//! kept files. Also the file `targets` of a build, and a walk over the entries of a directory.
 #![tactic(auto)]
 
 mod chests;
@@ -16,11 +17,8 @@ mod targets;
 mod tests;
 mod walking;
 
-pub use entries::{link_at, places_at};
 pub use laws::{a_store_tells_its_parts, the_lists_of_a_store_rise};
-pub use links::spot_of_link;
 pub use place::{Places, RelPath};
-pub use private::walk_store;
-pub use store::{Build, Chest, Claim, Installation, Store};
+pub use store::{Build, Claim, Store};
 pub use targets::{read_targets, write_targets};
 pub use walking::{LIMITS, Limits, Met, Skips, Walk, walk_all, walk_below};

@@ -1,8 +1,13 @@
 // The file `targets` at its edges.
 mod chests;
+mod damage;
+mod limits;
 mod notes;
+mod store;
+mod trees;
 mod walks;
 
+use crate::links::spot_of_link;
 use crate::*;
 use std::alloc::{AllocError, Global};
 use std::process::Abort;

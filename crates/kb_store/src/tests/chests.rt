@@ -1,5 +1,6 @@
 // The chests that what was met tells of.
 use crate::chests::chests_of;
+use crate::store::Chest;
 use crate::*;
 use kb_world::{Kind, Path, Roots};
 use std::alloc::{AllocError, Global};

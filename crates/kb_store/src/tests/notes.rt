@@ -1,22 +1,11 @@
 // What the entries of a small store tell.
 use crate::notes::{Notes, note};
+use crate::tests::trees::{Entry, empty_world, put_row, usual_roots};
 use kb_memory::MemoryWorld;
-use kb_world::{Bytes, Node, Path, Roots, Text, is_name};
+use kb_world::Path;
 use std::alloc::{AllocError, Global};
 use std::process::Abort;
 use std::test::Fail;
-
-// Each a directory and the name of a directory in it.
-const DIRECTORIES: [(&str, &str); 8] = [
-    ("/", "var"),
-    ("/var", "lib"),
-    ("/var/lib", "dkms"),
-    ("/var/lib/dkms", "hello"),
-    ("/var/lib/dkms/hello", "1.0"),
-    ("/var/lib/dkms/hello/1.0", "6.1.0"),
-    ("/var/lib/dkms/hello/1.0/6.1.0", "x86_64"),
-    ("/var/lib/dkms/hello/1.0/6.1.0/x86_64", "module"),
-];
 
 // The entries that tell something, in the order of paths.
 const TELLING: [&str; 3] = [
@@ -37,79 +26,28 @@ const SOUND: Case = Case {
     targets: "kmodboot targets 1\nupdates/hello.ko\n",
 };
 
-// Puts a node into a directory where nothing of that name stands. It tells whether it could.
-fn put(
-    alloc: Global,
-    world: &mut MemoryWorld,
-    directory: &str,
-    name: &str,
-    node: Node,
-) -> Result<bool, Fail> {
-    if !is_name(name) {
-        return Ok(false);
-    }
-    let parent = Path::parse(alloc, directory)?;
-    let path = parent.child(alloc, name)?;
-    match (world.node(&parent), world.node(&path)) {
-        (Some(Node::Dir), None) => {
-            world.place(alloc, &path, Some(node))?;
-            Ok(true)
-        }
-        _ => Ok(false),
-    }
-}
-
-fn link(alloc: Global, text: &str) -> Result<Node, AllocError> {
-    Ok(Node::Link {
-        text: Text::of(alloc, text)?,
-    })
-}
-
-fn file(alloc: Global, text: &str) -> Result<Node, AllocError> {
-    Ok(Node::File {
-        bytes: Bytes::of(alloc, text.as_bytes())?,
-        exec: false,
-    })
-}
-
-fn put_directories(rt: &impl Abort, alloc: Global, world: &mut MemoryWorld) -> Result<(), Fail> {
-    for (directory, name) in DIRECTORIES {
-        let done = put(alloc, world, directory, name, Node::Dir)?;
-        assert!(rt; done, "can't make {directory}/{name}");
-    }
-    Ok(())
-}
-
 fn put_entries(
     rt: &impl Abort,
     alloc: Global,
     world: &mut MemoryWorld,
     case: &Case,
 ) -> Result<(), Fail> {
-    let version = "/var/lib/dkms/hello/1.0";
-    let build = "/var/lib/dkms/hello/1.0/6.1.0/x86_64";
-    let modules = "/var/lib/dkms/hello/1.0/6.1.0/x86_64/module";
-    let source = link(alloc, case.source)?;
-    assert!(rt; put(alloc, world, version, "source", source)?);
-    let targets = file(alloc, case.targets)?;
-    assert!(rt; put(alloc, world, build, "targets", targets)?);
-    let module = file(alloc, "text\n")?;
-    assert!(rt; put(alloc, world, modules, "hello.ko", module)?);
-    let installed = link(alloc, "1.0/6.1.0/x86_64")?;
-    assert!(rt;
-        put(
-            alloc,
-            world,
-            "/var/lib/dkms/hello",
-            "kernel-6.1.0-x86_64",
-            installed
-        )?
-    );
+    for row in [
+        ("hello/1.0/source", Entry::Link(case.source)),
+        ("hello/1.0/6.1.0/x86_64/targets", Entry::File(case.targets)),
+        (
+            "hello/1.0/6.1.0/x86_64/module/hello.ko",
+            Entry::File("text\n"),
+        ),
+        ("hello/kernel-6.1.0-x86_64", Entry::Link("1.0/6.1.0/x86_64")),
+    ] {
+        put_row(rt, alloc, world, row)?;
+    }
     Ok(())
 }
 
 fn note_telling(alloc: Global, world: &mut MemoryWorld, notes: &mut Notes) -> Result<(), Fail> {
-    let roots = Roots::under(alloc, &Path::root(alloc))?;
+    let roots = usual_roots(alloc)?;
     for text in TELLING {
         let path = Path::parse(alloc, text)?;
         note(alloc, world, &roots, &path, notes)?;
@@ -141,15 +79,8 @@ fn text_of(alloc: Global, notes: &Notes) -> Result<String, AllocError> {
     Ok(text)
 }
 
-// It says nothing of the world that it makes, so that nothing has to be carried along.
-fn empty_world(alloc: Global) -> Result<MemoryWorld, AllocError> {
-    let roots = Roots::under(alloc, &Path::root(alloc))?;
-    MemoryWorld::new(alloc, roots, Vec::new(alloc))
-}
-
 fn expect(rt: &impl Abort, alloc: Global, case: &Case, want: &str) -> Result<(), Fail> {
     let mut world = empty_world(alloc)?;
-    put_directories(rt, alloc, &mut world)?;
     put_entries(rt, alloc, &mut world, case)?;
     let mut notes = Notes::new(alloc);
     note_telling(alloc, &mut world, &mut notes)?;

@@ -1,11 +1,9 @@
 -- The answer is the store's, or its refusal.
-use Rattle.std.proofs.Common.{◌≡◌, None, Option, sym, ap, ◌∙◌}
+use Rattle.std.proofs.Common.{◌≡◌, None, sym, ap, ◌∙◌}
 use Rattle.std.specs.Prelude.{filter_map, List}
-use Rattle.kb_world.specs.Path.{Path}
-use Rattle.kb_world.specs.Tree.{Tree}
 use Rattle.kb_world.specs.Store.{added_at}
 use Rattle.kb_store.specs.Notes.{told_build, told_installation}
-use Rattle.kb_store.specs.Read.{first_refusal, paths_met, IsReading}
+use Rattle.kb_store.specs.Read.{first_refusal, paths_met}
 use Rattle.kb_store.specs.declared.walking.Met.{Met}
 use Rattle.kb_store.proofs.ReadingLaws.{answer_refused, answer_read, answer_sound, answer_whole}
 use Rattle.kb_store.proofs.read.answer.Goals as goal

@@ -1,5 +1,5 @@
 -- The walk and the notes are those of the tree.
-use Rattle.std.proofs.Common.{◌≡◌, ◌++◌, Some, None, Option, List, sym, ap, ◌∙◌}
+use Rattle.std.proofs.Common.{◌≡◌, ◌++◌, Some, Option, List, sym, ap, ◌∙◌}
 use Rattle.std.proofs.lemmas.List.{append-nil}
 use Rattle.kb_world.specs.Path.{Path}
 use Rattle.kb_store.specs.Notes.{noted_all, notes_of, no_notes}

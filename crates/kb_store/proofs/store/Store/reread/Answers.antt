@@ -1,14 +1,11 @@
 -- What was read is the public tree's store.
 use Rattle.std.proofs.Common.{◌≡◌, List, Ok, Err, sym, ap, ◌∙◌}
-use Rattle.std.specs.Prelude.{Result, IsErrOf}
 use Rattle.kb_world.specs.Public.{public_tree}
-use Rattle.kb_world.specs.declared.stop.Stop.{Stop}
 use Rattle.kb_world.specs.declared.stop.Stop.TheVariants.{Fault}
 use Rattle.kb_store.specs.Contents.{store_of}
-use Rattle.kb_store.specs.Notes.{noted_all, notes_of, no_notes}
+use Rattle.kb_store.specs.Notes.{noted_all, notes_of}
 use Rattle.kb_store.specs.Read.{paths_met}
 use Rattle.kb_store.specs.declared.notes.Notes.{Notes}
-use Rattle.kb_store.specs.declared.store.Store.{Store}
 use Rattle.kb_store.specs.declared.walking.Met.{Met}
 use Rattle.kb_store.proofs.PublicNotes.{hurt_public, store_public}
 use Rattle.kb_store.proofs.TellLaws.{noted_all_is}
