@@ -73,7 +73,7 @@ fn rename(
     Ok(true)
 }
 
-// Whether the directory at the path, of which the caller knows that it is one, has no entries.
+// Whether an empty directory stands at the path.
 fn is_empty_dir(alloc: Global, world: &mut MemoryWorld, path: &Path) -> Result<bool, WorldError>
     ensures { IfOk result (λ empty. IsTrue empty → IsEmptyDir (tree_of world.new) path.now) }
 {
