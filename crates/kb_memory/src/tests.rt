@@ -1,5 +1,10 @@
 // Calls of a world in memory, over one directory. What is done to the world stands in functions that borrow it: a
 // test that owns it takes minutes to prove.
+ghost use Rattle.std.specs.Prelude.{◌≡◌};
+ghost use Rattle.kb_memory.specs.World.{state_of};
+
+mod moves;
+
 use crate::MemoryWorld;
 use kb_world::{
     Area, Bytes, Effect, EffectRow, Node, Path, Request, Roots, Sequence, Text, Texts, World,
@@ -63,7 +68,9 @@ fn empty_world(alloc: Global) -> Result<MemoryWorld, Fail> {
     )?)
 }
 
-fn make_dir(alloc: Global, world: &mut MemoryWorld, text: &str) -> Result<bool, Fail> {
+fn make_dir(alloc: Global, world: &mut MemoryWorld, text: &str) -> Result<bool, Fail>
+    ensures { (state_of world.new).roots ≡ (state_of world.old).roots }
+{
     let path = path(alloc, text)?;
     match (world.node(&path.parent()?), world.node(&path)) {
         (Some(Node::Dir), None) => {
@@ -112,7 +119,7 @@ fn list(alloc: Global, world: &mut MemoryWorld, text: &str) -> Result<Option<usi
 fn unlink(alloc: Global, world: &mut MemoryWorld, text: &str) -> Result<bool, Fail> {
     let path = path(alloc, text)?;
     match world.node(&path) {
-        Some(Node::File { .. }) => {
+        Some(Node::File { .. }) | Some(Node::Link { .. }) => {
             world.unlink(alloc, &path)?;
             Ok(true)
         }
