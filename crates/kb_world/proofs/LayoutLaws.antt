@@ -66,7 +66,6 @@ layout_is_store roots store = same_tree _ _ (λ q.
 
 -- ---- the public and the foreign tree together
 
-
 or_none : (at : Option Node) → option_or at None ≡ at
 or_none None = refl
 or_none (Some node) = refl
