@@ -203,7 +203,6 @@ fn expect_claims_told(rt: &impl Abort, alloc: Global, world: &mut MemoryWorld) -
 }
 
 // What the store tells that is read a second time.
-#[tactic(auto, using(crate::proofs::ReadLaws::read_is_sound))]
 fn told_again(alloc: Global, world: &mut MemoryWorld) -> Result<String, AllocError> {
     let roots = usual_roots(alloc)?;
     match world.node(&roots.dkms) {
