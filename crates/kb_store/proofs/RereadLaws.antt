@@ -1,5 +1,5 @@
 -- What may be read again.
-use Rattle.std.proofs.Common.{◌≡◌, Option, Some, None, Result, Ok, sym, ◌∙◌}
+use Rattle.std.proofs.Common.{◌≡◌, None, Ok, sym, ◌∙◌}
 use Rattle.std.specs.Option.{ForSome}
 use Rattle.kb_world.specs.Does.{Gives}
 use Rattle.kb_world.specs.Public.{public_tree}
