@@ -16,6 +16,7 @@ pub mod PlaceLaws
 pub mod PublicNotes
 pub mod ReadLaws
 pub mod ReadingLaws
+pub mod RereadLaws
 pub mod TargetsLaws
 pub mod TellLaws
 pub mod VisitLaws

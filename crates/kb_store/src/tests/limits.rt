@@ -1,45 +1,12 @@
 // The limits of a walk and of a store, at their edges.
 use crate::tests::store::told;
-use crate::tests::trees::{Entry, Row, empty_world, put_row, usual_roots};
+use crate::tests::trees::{empty_world, put_lines, usual_roots};
 use crate::*;
 use kb_memory::MemoryWorld;
-use kb_world::{Node, Path};
+use kb_world::Node;
 use std::alloc::{AllocError, Global};
 use std::process::Abort;
 use std::test::Fail;
-
-// Rows, and the path that passes the limit of three entries, or that of directories two deep; none where it is empty.
-const FEW: [(&[Row], &str); 6] = [
-    (&[("a", Entry::Dir), ("b/c", Entry::Link("text"))], ""),
-    (
-        &[
-            ("a", Entry::Dir),
-            ("b/c", Entry::Link("text")),
-            ("b-", Entry::Dir),
-        ],
-        "/var/lib/dkms/b-",
-    ),
-    (
-        &[
-            ("a", Entry::Dir),
-            ("b", Entry::Dir),
-            (".kb-staged/c", Entry::Dir),
-            ("d", Entry::Dir),
-        ],
-        "",
-    ),
-    (
-        &[
-            ("d", Entry::Dir),
-            ("c", Entry::Dir),
-            ("b", Entry::Dir),
-            ("a", Entry::Dir),
-        ],
-        "/var/lib/dkms/d",
-    ),
-    (&[("a/b/c", Entry::File("text\n"))], ""),
-    (&[("a/b/c", Entry::Dir)], "/var/lib/dkms/a/b/c"),
-];
 
 const SMALL: Limits = Limits {
     entries: 3,
@@ -54,17 +21,15 @@ fn passed(alloc: Global, world: &mut MemoryWorld) -> Result<String, Fail> {
         _ => return Ok(String::from_str(alloc, "no root")?),
     }
     let walk = walk_below(alloc, world, &roots, &roots.dkms, SMALL)?;
-    match walk.over {
+    match &walk.over {
         Some(path) => Ok(path.to_string(alloc)?),
         None => Ok(String::new(alloc)),
     }
 }
 
-fn expect_passed(rt: &impl Abort, alloc: Global, rows: &[Row], want: &str) -> Result<(), Fail> {
+fn expect_passed(rt: &impl Abort, alloc: Global, lines: &str, want: &str) -> Result<(), Fail> {
     let mut world = empty_world(alloc)?;
-    for row in rows {
-        put_row(rt, alloc, &mut world, *row)?;
-    }
+    put_lines(rt, alloc, &mut world, lines)?;
     assert_eq!(rt; passed(alloc, &mut world)?.as_str(), want);
     Ok(())
 }
@@ -72,57 +37,60 @@ fn expect_passed(rt: &impl Abort, alloc: Global, rows: &[Row], want: &str) -> Re
 #[test]
 fn a_walk_ends_at_the_first_path_over_its_limits(rt: HostRuntime) -> Result<(), Fail> {
     let alloc = rt.alloc();
-    for (rows, want) in FEW {
-        expect_passed(&rt, alloc, rows, want)?;
+    for (lines, want) in [
+        ("a dir\nb/c link text\n", ""),
+        ("a dir\nb/c link text\nb- dir\n", "/var/lib/dkms/b-"),
+        ("a dir\nb dir\n.kb-staged/c dir\nd dir\n", ""),
+        ("d dir\nc dir\nb dir\na dir\n", "/var/lib/dkms/d"),
+        ("a/b/c file text\n", ""),
+        ("a/b/c dir\n", "/var/lib/dkms/a/b/c"),
+    ] {
+        expect_passed(&rt, alloc, lines, want)?;
     }
     Ok(())
 }
 
-// Paths of 64 names, and of 65.
-const DEEPEST: &str = "d/d/d/d/d/d/d/d/d/d/d/d/d/d/d/d/d/d/d/d/d/d/d/d/d/d/d/d/d/d/d/d/\
-d/d/d/d/d/d/d/d/d/d/d/d/d/d/d/d/d/d/d/d/d/d/d/d/d/d/d/d/d/d/d/d";
-
-const TOO_DEEP: &str = "d/d/d/d/d/d/d/d/d/d/d/d/d/d/d/d/d/d/d/d/d/d/d/d/d/d/d/d/d/d/d/d/\
-d/d/d/d/d/d/d/d/d/d/d/d/d/d/d/d/d/d/d/d/d/d/d/d/d/d/d/d/d/d/d/d/e";
-
-const DEEP_IN_A_BUILD: &str =
-    "d/1.0/6.1.0/x86_64/module/b/b/b/b/b/b/b/b/b/b/b/b/b/b/b/b/b/b/b/b/b/b/b/b/b/\
-b/b/b/b/b/b/b/b/b/b/b/b/b/b/b/b/b/b/b/b/b/b/b/b/b/b/b/b/b/b/b/b/b/b/e";
-
 const EMPTY: &str = "6.1.0, x86_64: kept\n6.2.0, x86_64: kept\n";
 
-fn expect_told(rt: &impl Abort, alloc: Global, rows: &[Row], want: &str) -> Result<(), Fail> {
-    let mut world = empty_world(alloc)?;
-    for row in rows {
-        put_row(rt, alloc, &mut world, *row)?;
+// The path with so many names more, each `b`, and one `e`.
+fn deep(alloc: Global, above: &str, more: usize) -> Result<String, AllocError> {
+    let mut path = String::from_str(alloc, above)?;
+    for _ in 0..more {
+        path.push_str("/b")?;
     }
+    path.push_str("/e")?;
+    Ok(path)
+}
+
+fn expect_told(rt: &impl Abort, alloc: Global, lines: &str, want: &str) -> Result<(), Fail> {
+    let mut world = empty_world(alloc)?;
+    put_lines(rt, alloc, &mut world, lines)?;
     assert_eq!(rt; told(alloc, &mut world)?.as_str(), want);
     Ok(())
 }
 
 #[test]
-fn a_store_is_refused_for_what_is_first(rt: HostRuntime) -> Result<(), Fail> {
+fn directories_stand_64_deep_at_most(rt: HostRuntime) -> Result<(), Fail> {
     let alloc = rt.alloc();
-    let deep = format!(in alloc; "/var/lib/dkms/{TOO_DEEP}: too many")?;
-    let before = ("c/1.0/source", Entry::Dir);
-    let behind = ("e/1.0/source", Entry::Dir);
-    let there = (TOO_DEEP, Entry::Dir);
-    expect_told(&rt, alloc, &[(DEEPEST, Entry::Dir)], EMPTY)?;
-    expect_told(&rt, alloc, &[(TOO_DEEP, Entry::File("text\n"))], EMPTY)?;
-    expect_told(&rt, alloc, &[there], deep.as_str())?;
-    expect_told(&rt, alloc, &[there, behind], deep.as_str())?;
+    let deepest = format!(in alloc; "{} dir", deep(alloc, "d", 62)?)?;
+    expect_told(&rt, alloc, deepest.as_str(), EMPTY)?;
+    let far = deep(alloc, "d", 63)?;
+    let file = format!(in alloc; "{far} file text")?;
+    expect_told(&rt, alloc, file.as_str(), EMPTY)?;
+    let over = format!(in alloc; "/var/lib/dkms/{far}: too many")?;
+    let behind = format!(in alloc; "{far} dir\ne/1.0/source dir")?;
+    expect_told(&rt, alloc, behind.as_str(), over.as_str())?;
+    let before = format!(in alloc; "{far} dir\nc/1.0/source dir")?;
     let damaged = "/var/lib/dkms/c/1.0/source: damaged";
-    expect_told(&rt, alloc, &[there, before], damaged)
+    expect_told(&rt, alloc, before.as_str(), damaged)
 }
 
 #[test]
 fn targets_behind_a_limit_tell_of_damage_before_it(rt: HostRuntime) -> Result<(), Fail> {
-    let targets = "kmodboot targets 1\nextra/a.ko\n";
-    let rows = [
-        ("d/1.0/source", Entry::Link("/usr/src/d-1.0")),
-        ("d/1.0/6.1.0/x86_64/targets", Entry::File(targets)),
-        (DEEP_IN_A_BUILD, Entry::Dir),
-    ];
+    let alloc = rt.alloc();
+    let far = deep(alloc, "d/1.0/6.1.0/x86_64/module", 59)?;
+    let targets = "d/1.0/6.1.0/x86_64/targets targets extra/a.ko";
+    let lines = format!(in alloc; "{far} dir\n{targets}\nd/1.0/source link /usr/src/d-1.0")?;
     let damaged = "/var/lib/dkms/d/1.0/6.1.0/x86_64/module/a.ko: damaged";
-    expect_told(&rt, rt.alloc(), &rows, damaged)
+    expect_told(&rt, alloc, lines.as_str(), damaged)
 }

@@ -1,6 +1,6 @@
 // What the entries of a small store tell.
 use crate::notes::{Notes, note};
-use crate::tests::trees::{Entry, empty_world, put_row, usual_roots};
+use crate::tests::trees::{empty_world, put_lines, usual_roots};
 use kb_memory::MemoryWorld;
 use kb_world::Path;
 use std::alloc::{AllocError, Global};
@@ -14,7 +14,7 @@ const TELLING: [&str; 3] = [
     "/var/lib/dkms/hello/kernel-6.1.0-x86_64",
 ];
 
-// What the version's link says, and what the file `targets` of its build holds.
+// What stands at the version's link, and at the `targets` of its build.
 #[derive(Clone, Copy)]
 struct Case {
     source: &'static str,
@@ -22,9 +22,14 @@ struct Case {
 }
 
 const SOUND: Case = Case {
-    source: "/usr/src/hello-1.0",
-    targets: "kmodboot targets 1\nupdates/hello.ko\n",
+    source: "hello/1.0/source link /usr/src/hello-1.0",
+    targets: "hello/1.0/6.1.0/x86_64/targets targets updates/hello.ko",
 };
+
+const OTHERS: &str = "\
+hello/1.0/6.1.0/x86_64/module/hello.ko file text
+hello/kernel-6.1.0-x86_64 link 1.0/6.1.0/x86_64
+";
 
 fn put_entries(
     rt: &impl Abort,
@@ -32,18 +37,8 @@ fn put_entries(
     world: &mut MemoryWorld,
     case: &Case,
 ) -> Result<(), Fail> {
-    for row in [
-        ("hello/1.0/source", Entry::Link(case.source)),
-        ("hello/1.0/6.1.0/x86_64/targets", Entry::File(case.targets)),
-        (
-            "hello/1.0/6.1.0/x86_64/module/hello.ko",
-            Entry::File("text\n"),
-        ),
-        ("hello/kernel-6.1.0-x86_64", Entry::Link("1.0/6.1.0/x86_64")),
-    ] {
-        put_row(rt, alloc, world, row)?;
-    }
-    Ok(())
+    let lines = format!(in alloc; "{}\n{}\n{OTHERS}", case.source, case.targets)?;
+    put_lines(rt, alloc, world, lines.as_str())
 }
 
 fn note_telling(alloc: Global, world: &mut MemoryWorld, notes: &mut Notes) -> Result<(), Fail> {
@@ -98,7 +93,7 @@ fn a_sound_package_tells_its_parts(rt: HostRuntime) -> Result<(), Fail> {
 #[test]
 fn another_source_is_damage(rt: HostRuntime) -> Result<(), Fail> {
     let case = Case {
-        source: "/usr/src/hello-2.0",
+        source: "hello/1.0/source link /usr/src/hello-2.0",
         targets: SOUND.targets,
     };
     let want =
@@ -110,7 +105,7 @@ fn another_source_is_damage(rt: HostRuntime) -> Result<(), Fail> {
 fn other_targets_are_damage(rt: HostRuntime) -> Result<(), Fail> {
     let case = Case {
         source: SOUND.source,
-        targets: "updates/hello.ko\n",
+        targets: "hello/1.0/6.1.0/x86_64/targets file updates/hello.ko",
     };
     let want = "hello/1.0: added\n/var/lib/dkms/hello/1.0/6.1.0/x86_64/targets: damaged\n";
     expect(&rt, rt.alloc(), &case, want)

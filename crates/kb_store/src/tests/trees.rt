@@ -8,17 +8,6 @@ use std::alloc::{AllocError, Global};
 use std::process::Abort;
 use std::test::Fail;
 
-/// What is placed at a path.
-#[derive(Clone, Copy)]
-pub(crate) enum Entry {
-    Dir,
-    File(&'static str),
-    Link(&'static str),
-}
-
-/// An entry and its path below the dkms root.
-pub(crate) type Row = (&'static str, Entry);
-
 pub(crate) fn usual_roots(alloc: Global) -> Result<Roots, AllocError>
     ensures { IfOk result AreApart }
 {
@@ -30,16 +19,26 @@ pub(crate) fn empty_world(alloc: Global) -> Result<MemoryWorld, AllocError> {
     MemoryWorld::new(alloc, usual_roots(alloc)?, Vec::new(alloc))
 }
 
-fn node_of(alloc: Global, entry: Entry) -> Result<Node, AllocError> {
-    match entry {
-        Entry::Dir => Ok(Node::Dir),
-        Entry::File(text) => Ok(Node::File {
-            bytes: Bytes::of(alloc, text.as_bytes())?,
-            exec: false,
-        }),
-        Entry::Link(text) => Ok(Node::Link {
+fn file_of(alloc: Global, text: &str) -> Result<Node, AllocError> {
+    Ok(Node::File {
+        bytes: Bytes::of(alloc, text.as_bytes())?,
+        exec: false,
+    })
+}
+
+// What the words tell: `link TEXT`, `file TEXT`, `targets PLACES` with commas between the places, or `dir`.
+fn node_of(alloc: Global, words: &str) -> Result<Node, AllocError> {
+    match words.split_once(" ") {
+        Some(("link", text)) => Ok(Node::Link {
             text: Text::of(alloc, text)?,
         }),
+        Some(("targets", places)) => {
+            let lines = places.replace(alloc, ",", "\n")?;
+            let text = format!(in alloc; "kmodboot targets 1\n{lines}\n")?;
+            file_of(alloc, text.as_str())
+        }
+        Some((_, text)) => file_of(alloc, text),
+        None => Ok(Node::Dir),
     }
 }
 
@@ -83,22 +82,50 @@ pub(crate) fn make_root(alloc: Global, world: &mut MemoryWorld) -> Result<(), Al
     Ok(())
 }
 
-/// Puts an entry at a path below the dkms root, and makes the directories above it.
-pub(crate) fn put_row(
+// Puts a node at a path below the dkms root, and makes the directories above it.
+fn put_below(
+    alloc: Global,
+    world: &mut MemoryWorld,
+    below: &str,
+    node: Node,
+) -> Result<bool, Fail> {
+    let path = Path::parse(alloc, &format!(in alloc; "/var/lib/dkms/{below}")?)?;
+    match path.names() {
+        [above @ .., name] => {
+            let directory = enter(alloc, world, above)?;
+            Ok(put(alloc, world, &directory, name.as_str(), node)?)
+        }
+        [] => Ok(false),
+    }
+}
+
+/// Puts what the line tells: a path below the dkms root, a blank, and what stands there.
+pub(crate) fn put_line(
     rt: &impl Abort,
     alloc: Global,
     world: &mut MemoryWorld,
-    row: Row,
+    line: &str,
 ) -> Result<(), Fail> {
-    let path = Path::parse(alloc, &format!(in alloc; "/var/lib/dkms/{}", row.0)?)?;
-    let done = match path.names() {
-        [above @ .., name] => {
-            let directory = enter(alloc, world, above)?;
-            let node = node_of(alloc, row.1)?;
-            put(alloc, world, &directory, name.as_str(), node)?
+    let done = match line.split_once(" ") {
+        Some((below, words)) => {
+            let node = node_of(alloc, words)?;
+            put_below(alloc, world, below, node)?
         }
-        [] => false,
+        None => false,
     };
-    assert!(rt; done, "can't place {}", row.0);
+    assert!(rt; done, "can't place {line}");
+    Ok(())
+}
+
+/// Puts what the lines tell.
+pub(crate) fn put_lines(
+    rt: &impl Abort,
+    alloc: Global,
+    world: &mut MemoryWorld,
+    lines: &str,
+) -> Result<(), Fail> {
+    for line in lines.lines() {
+        put_line(rt, alloc, world, line)?;
+    }
     Ok(())
 }

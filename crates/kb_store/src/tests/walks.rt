@@ -1,5 +1,5 @@
 // A walk over a small tree in memory.
-use crate::tests::trees::{Entry, empty_world, put_row, usual_roots};
+use crate::tests::trees::{empty_world, put_lines, usual_roots};
 use crate::*;
 use kb_memory::MemoryWorld;
 use kb_world::Node;
@@ -8,13 +8,13 @@ use std::process::Abort;
 use std::test::Fail;
 
 // Directories below the dkms root, out of the order of paths.
-const DIRECTORIES: [&str; 5] = [
-    "world/build",
-    "hello/1.0/build/src",
-    "hello/1.0/6.1.0",
-    "hello-",
-    ".kb-staged",
-];
+const DIRECTORIES: &str = "\
+world/build dir
+hello/1.0/build/src dir
+hello/1.0/6.1.0 dir
+hello- dir
+.kb-staged dir
+";
 
 const MET: &str = "\
 /var/lib/dkms/hello
@@ -52,8 +52,6 @@ fn expect_walk(rt: &impl Abort, alloc: Global, world: &mut MemoryWorld) -> Resul
 fn a_walk_meets_paths_in_their_order(rt: HostRuntime) -> Result<(), Fail> {
     let alloc = rt.alloc();
     let mut world = empty_world(alloc)?;
-    for path in DIRECTORIES {
-        put_row(&rt, alloc, &mut world, (path, Entry::Dir))?;
-    }
+    put_lines(&rt, alloc, &mut world, DIRECTORIES)?;
     expect_walk(&rt, alloc, &mut world)
 }
