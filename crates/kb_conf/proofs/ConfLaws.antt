@@ -1,5 +1,5 @@
 -- From the values of a text to its conf.
-use Rattle.std.proofs.Common.{◌≡◌, ℕ, List, refl, sym, ap, ◌∙◌, subst}
+use Rattle.std.proofs.Common.{◌≡◌, ℕ, List, refl, sym, ap, ◌∙◌, subst, inl, inr}
 use Rattle.std.specs.Prelude.{Result, Ok, Err}
 use Rattle.std.specs.List.{AllByRecursion}
 use Rattle.kb_world.specs.declared.refusal.Refusal.{Refusal}
@@ -9,11 +9,11 @@ use Rattle.kb_world.specs.declared.stop.Stop.TheVariants.{Refused, Fault, NoMemo
 use Rattle.kb_conf.specs.declared.conf.Conf.{Conf}
 use Rattle.kb_conf.specs.Assignment.{Given}
 use Rattle.kb_conf.specs.Values.{Values}
-use Rattle.kb_conf.specs.Meaning.{Said, meaning_of}
+use Rattle.kb_conf.specs.Meaning.{Said, Means, meaning_of}
 use Rattle.kb_conf.specs.Reading.{drop_returns, IsGood, IsBadLine}
-use Rattle.kb_conf.specs.Conf.{values_in, conf_in, conf_from, conf_of}
+use Rattle.kb_conf.specs.Conf.{values_in, conf_in, conf_from, conf_of, IsSaid, ReadsConf}
 use Rattle.kb_world.specs.Read.{IsRead}
-use Rattle.kb_conf.proofs.MeaningLaws.{is_meaning}
+use Rattle.kb_conf.proofs.MeaningLaws.{meaning, is_meaning}
 
 pub good_values : (g : Given) (text : List ℕ) (values : Values) → IsGood g text values → values_in (meaning_of g text) ≡ Ok values
 good_values g text values h = ap values_in (is_meaning g text (Ok values) h)
@@ -42,3 +42,16 @@ pub conf_found : (g : Given) (text kept : List ℕ) (values : Values) (result : 
     IsRead result (conf_from g values) → IsRead result (conf_of text g)
 unfolding conf_of
 conf_found g text kept values result same e h = subst (λ t. IsRead result (conf_in g (meaning_of g t))) same (found g (meaning_of g kept) values result e h)
+
+said_so : (g : Given) (text : List ℕ) (said : Said) → Means g text said → IsSaid g text (conf_in g said)
+said_so g text (Ok assignments) h = inl (assignments, h, refl)
+said_so g text (Err line) h = inr (line, h, refl)
+
+-- what is answered is what the grammar says
+pub reads_conf : (g : Given) (text : List ℕ) (result : Result Conf Stop) → IsRead result (conf_of text g) → ReadsConf g text result
+unfolding conf_of
+reads_conf g text result h = record {
+  right = conf_of text g;
+  said = said_so g (drop_returns text) (meaning_of g (drop_returns text)) (meaning g (drop_returns text));
+  answered = h;
+}

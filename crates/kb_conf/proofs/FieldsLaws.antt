@@ -12,10 +12,10 @@ use Rattle.kb_conf.specs.declared.conf.Target.{Target}
 use Rattle.kb_conf.specs.Assignment.{Given}
 use Rattle.kb_conf.specs.Values.{Values, value_of}
 use Rattle.kb_conf.specs.Targets.{target_numbers, target_at, begins_with}
-use Rattle.kb_conf.specs.Fields.{key_of, scripts_of, script, patches_of, make_of, depends_of, is_excluded, unused_of, fields_of, default_make}
+use Rattle.kb_conf.specs.Fields.{package_key, scripts_of, script, patches_of, make_of, depends_of, is_excluded, unused_of, fields_of, default_make}
 
 pub key_is : (values : Values) (m v : List ℕ) → m ≡ value_of values (codes "PACKAGE_NAME") 0 → v ≡ value_of values (codes "PACKAGE_VERSION") 0 →
-    record { «module» = m; version = v } ≡ key_of values
+    record { «module» = m; version = v } ≡ package_key values
 key_is values m v e f = rw (e, f) refl
 
 pub scripts_are : (values : Values) (a b c d e f : Option (List ℕ)) → a ≡ script values (codes "PRE_BUILD") → b ≡ script values (codes "POST_BUILD") →
@@ -25,7 +25,7 @@ scripts_are values a b c d e f p q r s t u = rw (p, q, r, s, t, u) refl
 
 pub fields_are : (given : Given) (values : Values) (key : Key) (targets : List Target) (patches : List Patch) (make : List ℕ) (clean : Option (List ℕ))
     (scripts : Scripts) (depends : List (List ℕ)) (excluded autoinstall : Bool) (unused : List (List ℕ)) →
-    key ≡ key_of values → targets ≡ map (target_at values) (target_numbers values) → patches ≡ patches_of given values → make ≡ make_of given values →
+    key ≡ package_key values → targets ≡ map (target_at values) (target_numbers values) → patches ≡ patches_of given values → make ≡ make_of given values →
     clean ≡ script values (codes "CLEAN") → scripts ≡ scripts_of values → depends ≡ depends_of values → excluded ≡ is_excluded given values →
     autoinstall ≡ begins_with (byte "y") (byte "Y") (value_of values (codes "AUTOINSTALL") 0) → unused ≡ unused_of values →
     record { key = key; targets = targets; patches = patches; make = make; clean = clean; scripts = scripts; depends = depends; excluded = excluded; autoinstall = autoinstall; unused = unused }

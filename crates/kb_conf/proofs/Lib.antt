@@ -3,6 +3,7 @@ pub mod SpanLaws
 pub mod NumberLaws
 pub mod ReferenceLaws
 pub mod PieceLaws
+pub mod PlacedLaws
 pub mod TableLaws
 pub mod ValueLaws
 pub mod AssignmentLaws

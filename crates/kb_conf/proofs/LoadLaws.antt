@@ -16,8 +16,8 @@ use Rattle.kb_world.specs.declared.stop.Stop.TheVariants.{Refused, Fault, NoMemo
 use Rattle.kb_conf.specs.declared.conf.Conf.{Conf}
 use Rattle.kb_conf.specs.Assignment.{Given}
 use Rattle.kb_conf.specs.Conf.{conf_of}
-use Rattle.kb_world.specs.Read.{IsRead}
-use Rattle.kb_conf.specs.Load.{conf_path, bytes_at, no_conf, no_source, matched, after, loaded_conf, GivesFile}
+use Rattle.kb_world.specs.Read.{IsRead, unless_due}
+use Rattle.kb_conf.specs.Load.{conf_below, bytes_at, no_conf, no_source, matched, loaded_conf, GivesFile}
 
 -- where no refusal of the source is due, its conf is a file
 is_conf_file : (path : Path) (tree : Tree) → no_conf path tree ≡ None → is_file (node_at tree path) ≡ true
@@ -45,10 +45,10 @@ cause_moves old new stop h = record {
   never = λ is e. h.never is (error_moves stop Fault e);
 }
 
-after_due : (o : Option Refusal) (due : Refusal) (said : Result Conf Refusal) → o ≡ Some due → after o said ≡ Err due
-after_due o due said e = ap (λ x. after x said) e
+after_due : (o : Option Refusal) (due : Refusal) (said : Result Conf Refusal) → o ≡ Some due → unless_due o said ≡ Err due
+after_due o due said e = ap (λ x. unless_due x said) e
 
-refused_answer : (dir : Path) (key : Option Key) (given : Given) (path : Path) → path ≡ conf_path dir → (tree : Tree) (stop : Stop) →
+refused_answer : (dir : Path) (key : Option Key) (given : Given) (path : Path) → path ≡ conf_below dir → (tree : Tree) (stop : Stop) →
     Agrees {T = Unit {0}} (Err stop) (no_source dir path tree) → IsAnswer (Err stop) (loaded_conf dir key given tree)
 unfolding loaded_conf
 refused_answer dir key given path is tree (Refused due) e = after_due _ due _ (ap (λ p. no_source dir p tree) (sym is) ∙ e)
@@ -56,7 +56,7 @@ refused_answer dir key given path is tree Fault e = tt
 refused_answer dir key given path is tree NoMemory e = tt
 
 -- where the source is refused
-pub gives_refused : (dir : Path) (key : Option Key) (given : Given) (path : Path) → path ≡ conf_path dir → (old mid : State) (stop : Stop) →
+pub gives_refused : (dir : Path) (key : Option Key) (given : Given) (path : Path) → path ≡ conf_below dir → (old mid : State) (stop : Stop) →
     Decides (no_source dir path) {T = Unit {0}} old mid (Err stop) → Gives (loaded_conf dir key given) old mid (Err stop)
 gives_refused dir key given path is old mid stop d = record {
   answers = λ tree told. refused_answer dir key given path is tree stop (d.agrees tree told);
@@ -77,16 +77,16 @@ no_fault (Err (Refused due)) said h e = let impossible : Err (Refused due) ≡ E
 no_fault (Err Fault) said h e = h
 no_fault (Err NoMemory) said h e = let impossible : Err NoMemory ≡ Err Fault = e in cc
 
-loaded_is : (dir : Path) (key : Option Key) (given : Given) (path : Path) → path ≡ conf_path dir → (tree : Tree) (bytes : List ℕ) →
+loaded_is : (dir : Path) (key : Option Key) (given : Given) (path : Path) → path ≡ conf_below dir → (tree : Tree) (bytes : List ℕ) →
     no_source dir path tree ≡ None → file_bytes (node_at tree path) ≡ Some bytes → loaded_conf dir key given tree ≡ matched key (conf_of bytes given)
 unfolding loaded_conf
 loaded_is dir key given path is tree bytes none held =
-    ap (λ p. after (no_source dir p tree) (matched key (conf_of (bytes_at p tree) given))) (sym is)
-    ∙ ap (λ o. after o (matched key (conf_of (bytes_at path tree) given))) none
+    ap (λ p. unless_due (no_source dir p tree) (matched key (conf_of (bytes_at p tree) given))) (sym is)
+    ∙ ap (λ o. unless_due o (matched key (conf_of (bytes_at path tree) given))) none
     ∙ ap (λ o. matched key (conf_of (unwrap_or o (codes "")) given)) held
 
 -- where the file is read
-pub gives_read : (dir : Path) (key : Option Key) (given : Given) (path : Path) → path ≡ conf_path dir → (old mid new : State) (u : Unit {0}) (bytes : List ℕ) (result : Result Conf Stop) →
+pub gives_read : (dir : Path) (key : Option Key) (given : Given) (path : Path) → path ≡ conf_below dir → (old mid new : State) (u : Unit {0}) (bytes : List ℕ) (result : Result Conf Stop) →
     Decides (no_source dir path) {T = Unit {0}} old mid (Ok u) → GivesFile path mid new (Ok bytes) → IsRead result (matched key (conf_of bytes given)) →
     Gives (loaded_conf dir key given) old new result
 gives_read dir key given path is old mid new u bytes result d f h = record {

@@ -3,9 +3,8 @@ use Rattle.std.proofs.Common.{◌≡◌, ◌≢◌, ℕ, zero, suc, ◌+◌, ◌
 use Rattle.std.specs.Prelude.{Result, Ok, Err}
 use Rattle.std.proofs.lemmas.Bool.{leb-true, leb-false}
 use Rattle.std.proofs.lemmas.List.{length-append}
-use Rattle.kb_conf.specs.declared.bytes.TheConstants.{EQUALS}
+use Rattle.kb_conf.specs.Signs.{equals_sign}
 use Rattle.kb_conf.specs.declared.place.Place.{Place}
-use Rattle.kb_conf.specs.declared.value.TheConstants.{LONGEST_VALUE}
 use Rattle.kb_conf.specs.Assignment.{Assignment, Given}
 use Rattle.kb_conf.specs.Front.{piece_at, byte_at, reference_at, plain_at}
 use Rattle.kb_conf.specs.Line.{Step, IsStep, AssignmentAt, is_command, Token, Blank, Semicolon, LineEnd, Comment, Set, spell_token}
@@ -13,8 +12,8 @@ use Rattle.kb_conf.specs.Name.{Reference, spell_reference}
 use Rattle.kb_conf.specs.Only.{IsOnly}
 use Rattle.kb_conf.specs.Piece.{Piece, Mode, mode_after}
 use Rattle.kb_conf.specs.Place.{line_start, may_set}
-use Rattle.kb_conf.specs.Reading.{IsBadLine, IsFurthest, sound_len, line_of}
-use Rattle.kb_conf.specs.Value.{Scope, scope, spell_pieces, at_start, gives, ends_item, is_short, IsShortValue}
+use Rattle.kb_conf.specs.Reading.{IsBadLine, IsFurthest, sound_len, line_number}
+use Rattle.kb_conf.specs.Value.{longest_value, Scope, scope, spell_pieces, at_start, gives, ends_item, is_short, IsShortValue}
 use Rattle.kb_conf.specs.Meaning.{Found, Said, Means, value_past, value_from, made_of, made_from, assignment_from, assignment_past, assignment_at, set_step, step_past, step_at, said_past, said_from, meaning_of}
 use Rattle.kb_conf.proofs.PieceLaws.{piece_shortens}
 use Rattle.kb_conf.proofs.ValueLaws.{Continues, continues_start, continues_step, too_long, value_done, value_broken}
@@ -24,23 +23,23 @@ use Rattle.kb_conf.proofs.ReadingLaws.{SoFar, so_far_start, so_far_step, good, s
 use Rattle.kb_conf.proofs.OneMeaning.{one_list, good_or_bad, one_line}
 
 value_ends : (s : Scope) (start : Mode) (whole value : List ℕ) (m : Mode) (text : List ℕ) (b : Bool) → (not m.quoted && ends_item text) ≡ b →
-    Continues s start whole value m text → length value ≤ LONGEST_VALUE → piece_at m text ≡ None →
+    Continues s start whole value m text → length value ≤ longest_value → piece_at m text ≡ None →
     IsOnly (IsShortValue s start whole) (cond b (Some (value, text)) None)
 value_ends s start whole value m text true e so_far short none = value_done s start whole value m text so_far short none e
 value_ends s start whole value m text false e so_far short none = value_broken s start whole value m text so_far none e
 
 value_goes_on : (s : Scope) (start : Mode) (whole value : List ℕ) (m : Mode) (text : List ℕ) (p : Piece) (behind : List ℕ) (go : Mode → List ℕ → List ℕ → Found) (b : Bool) →
     is_short (value ++ gives s m p) ≡ b → Continues s start whole (value ++ gives s m p) (mode_after m p) behind → length behind < length text →
-    ((next : Mode) (more rest : List ℕ) → Continues s start whole more next rest → length more ≤ LONGEST_VALUE → length rest < length text → IsOnly (IsShortValue s start whole) (go next more rest)) →
+    ((next : Mode) (more rest : List ℕ) → Continues s start whole more next rest → length more ≤ longest_value → length rest < length text → IsOnly (IsShortValue s start whole) (go next more rest)) →
     IsOnly (IsShortValue s start whole) (cond b (go (mode_after m p) (value ++ gives s m p) behind) None)
 value_goes_on s start whole value m text p behind go true e so_far less on =
-    on (mode_after m p) (value ++ gives s m p) behind so_far (leb-true (length (value ++ gives s m p)) LONGEST_VALUE e) less
+    on (mode_after m p) (value ++ gives s m p) behind so_far (leb-true (length (value ++ gives s m p)) longest_value e) less
 value_goes_on s start whole value m text p behind go false e so_far less on =
-    too_long s start whole (value ++ gives s m p) (mode_after m p) behind so_far (leb-false (length (value ++ gives s m p)) LONGEST_VALUE e)
+    too_long s start whole (value ++ gives s m p) (mode_after m p) behind so_far (leb-false (length (value ++ gives s m p)) longest_value e)
 
 value_past_only : (s : Scope) (start : Mode) (whole value : List ℕ) (m : Mode) (text : List ℕ) (go : Mode → List ℕ → List ℕ → Found) (o : Option (Piece × List ℕ)) →
-    piece_at m text ≡ o → Continues s start whole value m text → length value ≤ LONGEST_VALUE →
-    ((next : Mode) (more rest : List ℕ) → Continues s start whole more next rest → length more ≤ LONGEST_VALUE → length rest < length text → IsOnly (IsShortValue s start whole) (go next more rest)) →
+    piece_at m text ≡ o → Continues s start whole value m text → length value ≤ longest_value →
+    ((next : Mode) (more rest : List ℕ) → Continues s start whole more next rest → length more ≤ longest_value → length rest < length text → IsOnly (IsShortValue s start whole) (go next more rest)) →
     IsOnly (IsShortValue s start whole) (value_past s m value text go o)
 unfolding value_past
 value_past_only s start whole value m text go None e so_far short on = value_ends s start whole value m text (not m.quoted && ends_item text) refl so_far short e
@@ -49,7 +48,7 @@ value_past_only s start whole value m text go (Some found) e so_far short on =
     (continues_step s start whole value m text found.0 found.1 so_far e) (piece_shortens m text found.0 found.1 e) on
 
 value_only : (s : Scope) (start : Mode) (whole : List ℕ) (n : ℕ) (m : Mode) (value text : List ℕ) →
-    Continues s start whole value m text → length value ≤ LONGEST_VALUE → length text < n → IsOnly (IsShortValue s start whole) (value_from s n m value text)
+    Continues s start whole value m text → length value ≤ longest_value → length text < n → IsOnly (IsShortValue s start whole) (value_from s n m value text)
 unfolding value_from
 value_only s start whole zero m value text so_far short less = absurd (omega arith)
 value_only s start whole (suc n) m value text so_far short less =
@@ -60,12 +59,12 @@ value_only s start whole (suc n) m value text so_far short less =
 value_at_front : (s : Scope) (start : Mode) (text : List ℕ) → IsOnly (IsShortValue s start text) (value_from s (length text + 1) start [] text)
 value_at_front s start text = value_only s start text (length text + 1) start [] text (continues_start s start text) (omega arith) (omega arith)
 
-made_only : (s : Scope) (text : List ℕ) (r : Reference) (rest behind : List ℕ) (found : Found) → reference_at text ≡ Some (r, rest) → byte_at EQUALS rest ≡ Some behind →
+made_only : (s : Scope) (text : List ℕ) (r : Reference) (rest behind : List ℕ) (found : Found) → reference_at text ≡ Some (r, rest) → byte_at equals_sign rest ≡ Some behind →
     IsOnly (IsShortValue s (at_start (is_command r.name)) behind) found → IsOnly (AssignmentAt s text) (made_from r found)
 made_only s text r rest behind None named equals none = no_value s text r rest behind named equals none
 made_only s text r rest behind (Some v) named equals only = the_assignment s text r rest behind v.0 v.1 named equals only
 
-assignment_from_only : (s : Scope) (text : List ℕ) (r : Reference) (rest : List ℕ) (o : Option (List ℕ)) → reference_at text ≡ Some (r, rest) → byte_at EQUALS rest ≡ o →
+assignment_from_only : (s : Scope) (text : List ℕ) (r : Reference) (rest : List ℕ) (o : Option (List ℕ)) → reference_at text ≡ Some (r, rest) → byte_at equals_sign rest ≡ o →
     IsOnly (AssignmentAt s text) (assignment_from s r o)
 assignment_from_only s text r rest None named equals = no_equals s text r rest named equals
 assignment_from_only s text r rest (Some behind) named equals =
@@ -73,7 +72,7 @@ assignment_from_only s text r rest (Some behind) named equals =
 
 assignment_past_only : (s : Scope) (text : List ℕ) (o : Option (Reference × List ℕ)) → reference_at text ≡ o → IsOnly (AssignmentAt s text) (assignment_past s o)
 assignment_past_only s text None e = no_name s text e
-assignment_past_only s text (Some found) e = assignment_from_only s text found.0 found.1 (byte_at EQUALS found.1) e refl
+assignment_past_only s text (Some found) e = assignment_from_only s text found.0 found.1 (byte_at equals_sign found.1) e refl
 
 assignment_only : (s : Scope) (text : List ℕ) → IsOnly (AssignmentAt s text) (assignment_at s text)
 unfolding assignment_at
@@ -102,20 +101,20 @@ token_has_bytes (Blank b) = omega arith
 token_has_bytes Semicolon = omega arith
 token_has_bytes LineEnd = omega arith
 token_has_bytes (Comment text) = omega arith
-token_has_bytes (Set i) = omega (arith, length-append (spell_reference i.target) (EQUALS ∷ spell_pieces i.pieces))
+token_has_bytes (Set i) = omega (arith, length-append (spell_reference i.target) (equals_sign ∷ spell_pieces i.pieces))
 
 step_shortens : (s : Scope) (place : Place) (text : List ℕ) (step : Step) → IsStep s place text step → length step.rest < length text
 step_shortens s place text step h =
     let n : length text ≡ length (spell_token h.token) + length step.rest = ap length h.spelled ∙ length-append (spell_token h.token) step.rest in
     omega (arith, token_has_bytes h.token)
 
-bad_behind : (g : Given) (text rest : List ℕ) (b : ℕ) → IsFurthest g text (b ∷ rest) → IsBadLine g text (line_of text (b ∷ rest))
+bad_behind : (g : Given) (text rest : List ℕ) (b : ℕ) → IsFurthest g text (b ∷ rest) → IsBadLine g text (line_number text (b ∷ rest))
 bad_behind g text rest b furthest = record { rest = b ∷ rest; furthest = furthest; unread = λ e. cc; line_is = refl }
 
 said_goes_on : (g : Given) (text : List ℕ) (earlier : List Assignment) (place : Place) (b : ℕ) (rest : List ℕ) (go : List Assignment → Place → List ℕ → Said) (step : Step) (sound : Bool) →
     nat_le (length text) (sound_len text + length step.rest) ≡ sound → SoFar g text earlier place (b ∷ rest) → IsOnly (IsStep (scope g earlier) place (b ∷ rest)) (Some step) →
     ((all : List Assignment) (next : Place) (left : List ℕ) → SoFar g text all next left → length left < length (b ∷ rest) → Means g text (go all next left)) →
-    Means g text (cond sound (go (earlier ++ step.assigned) step.place step.rest) (Err (line_of text (b ∷ rest))))
+    Means g text (cond sound (go (earlier ++ step.assigned) step.place step.rest) (Err (line_number text (b ∷ rest))))
 said_goes_on g text earlier place b rest go step true e so_far only on =
     on (earlier ++ step.assigned) step.place step.rest (so_far_step g text earlier place (b ∷ rest) step so_far only (leb-true (length text) (sound_len text + length step.rest) e))
     (step_shortens (scope g earlier) place (b ∷ rest) step only.0)

@@ -7,7 +7,7 @@ use Rattle.std.proofs.lemmas.Bool.Decides.{nat_tests}
 use Rattle.std.proofs.lemmas.Bool.{eqb-false, and_parts, ltb-true, lt-ltb, le-ltb, ne_eqb, cases_lt}
 use Rattle.std.proofs.lemmas.Option.{cond_some, none-some}
 use Rattle.kb_conf.specs.Name.{decimal}
-use Rattle.kb_conf.specs.Front.{number_of, number_at, below_256}
+use Rattle.kb_conf.specs.Front.{number_written, number_at, below_256}
 use Rattle.kb_conf.proofs.Tools.{mapped, chosen}
 use Rattle.kb_conf.proofs.SpanLaws.{stops, passes_front, length_of_front, joined}
 
@@ -44,7 +44,7 @@ three_digits x y z low high small least =
 small_found : (m n : ℕ) → below_256 m ≡ Some n → (m < 256) × (m ≡ n)
 small_found m n e = let picked = cond_some (ltb m 256) m n e in (ltb-true m 256 picked.0, picked.1)
 
-digits_found : (ds : List ℕ) (n : ℕ) → list_all is_ascii_digit ds ≡ true → number_of ds ≡ Some n → (n < 256) × (ds ≡ decimal n)
+digits_found : (ds : List ℕ) (n : ℕ) → list_all is_ascii_digit ds ≡ true → number_written ds ≡ Some n → (n < 256) × (ds ≡ decimal n)
 digits_found [] n all e = absurd (none-some n e)
 digits_found (a ∷ []) n all e =
     let in_a = digit_range a (and_parts (is_ascii_digit a) true all).0 in
@@ -92,7 +92,7 @@ small_again n h = rw (lt-ltb n 256 h) refl
 -- what a number is read as again, with its digits
 pub record ReadAgain (ds : List ℕ) (n : ℕ) : Type 0 where
   pub digits : list_all is_ascii_digit ds ≡ true
-  pub value : number_of ds ≡ Some n
+  pub value : number_written ds ≡ Some n
 
 two_again : (x y : ℕ) → 0 < x → x < 10 → y < 10 → ReadAgain ((48 + x) ∷ (48 + y) ∷ []) (10 * x + y)
 two_again x y low high small =
@@ -115,7 +115,7 @@ three_again x y z low high small least limit =
     record { digits = rw (a, b, d) refl; value = rw (not_zero, vx, vy, vz) (small_again (100 * x + 10 * y + z) limit) }
 
 moved : (ds es : List ℕ) (m n : ℕ) → es ≡ ds → n ≡ m → ReadAgain ds m → ReadAgain es n
-moved ds es m n same_digits same_number r = record { digits = ap (list_all is_ascii_digit) same_digits ∙ r.digits; value = ap number_of same_digits ∙ r.value ∙ ap (λ (k : ℕ). Some k) (sym same_number) }
+moved ds es m n same_digits same_number r = record { digits = ap (list_all is_ascii_digit) same_digits ∙ r.digits; value = ap number_written same_digits ∙ r.value ∙ ap (λ (k : ℕ). Some k) (sym same_number) }
 
 pub digits_again : (n : ℕ) → n < 256 → ReadAgain (decimal n) n
 digits_again n h = elim (cases_lt n 10) [
@@ -139,7 +139,7 @@ pub number_found : (text : List ℕ) (n : ℕ) (rest : List ℕ) → number_at t
 unfolding number_at
 number_found text n rest e =
     let k = prefix_len is_ascii_digit text in
-    let m = mapped (λ (number : ℕ). (number, drop k text)) (number_of (take k text)) (n, rest) e in
+    let m = mapped (λ (number : ℕ). (number, drop k text)) (number_written (take k text)) (n, rest) e in
     let same_n : m.0 ≡ n = ap (λ (q : ℕ × List ℕ). q.0) m.2 in
     let same_rest : drop k text ≡ rest = ap (λ (q : ℕ × List ℕ). q.1) m.2 in
     let found = digits_found (take k text) n (passes_front is_ascii_digit text) (m.1 ∙ ap (λ (x : ℕ). Some x) same_n) in

@@ -5,10 +5,10 @@ use Rattle.std.proofs.lemmas.Bool.{and_parts, not-true}
 use Rattle.std.proofs.lemmas.List.{length-append}
 use Rattle.std.proofs.lemmas.Option.{some_pair_parts}
 use Rattle.kb_conf.specs.declared.place.Place.{Place}
-use Rattle.kb_conf.specs.declared.bytes.TheConstants.{EQUALS, LINE_FEED}
+use Rattle.kb_conf.specs.Signs.{equals_sign, line_feed}
 use Rattle.kb_conf.specs.Assignment.{Assignment, Given}
 use Rattle.kb_conf.specs.Name.{Reference, spell_reference}
-use Rattle.kb_conf.specs.Piece.{Piece, Mode, spell, fits, mode_after}
+use Rattle.kb_conf.specs.Piece.{Piece, Mode, spell, fits_here, mode_after}
 use Rattle.kb_conf.specs.Place.{line_start, after_assignment}
 use Rattle.kb_conf.specs.Front.{piece_at, plain_at}
 use Rattle.kb_conf.specs.Value.{Scope, ReadsValue, gives, spell_pieces, are_value, give_all, ends_item}
@@ -35,7 +35,7 @@ one_value s m text v w a b r q = by_pieces r.pieces m text v w r.spelled r.fitti
         let ended = at_end s m text w b none q in
         record { value = given ∙ sym ended.empty; after = sym spelled ∙ sym ended.here }
     by_pieces (p ∷ ps) m text v w spelled fitting given q =
-        let parts = and_parts (fits m p (spell_pieces ps ++ a)) (are_value (mode_after m p) ps a) fitting in
+        let parts = and_parts (fits_here m p (spell_pieces ps ++ a)) (are_value (mode_after m p) ps a) fitting in
         let found = ap (piece_at m) (spelled ∙ append_assoc (spell p) (spell_pieces ps) a) ∙ piece_again m p (spell_pieces ps ++ a) parts.0 in
         let left = behind_piece s m text p (spell_pieces ps ++ a) w b found q in
         let rest = by_pieces ps (mode_after m p) (spell_pieces ps ++ a) (give_all s (mode_after m p) ps) left.tail refl parts.1 refl left.read in
@@ -48,7 +48,7 @@ pub one_assignment : (s : Scope) (text : List ℕ) (a b : Assignment) (after beh
 one_assignment s text a b after behind h k =
     let p = parts_of s text a after h in
     let q = parts_of s text b behind k in
-    let pair = some_pair_parts p.target q.target (EQUALS ∷ p.behind) (EQUALS ∷ q.behind) (sym p.named ∙ q.named) in
+    let pair = some_pair_parts p.target q.target (equals_sign ∷ p.behind) (equals_sign ∷ q.behind) (sym p.named ∙ q.named) in
     let same_behind : p.behind ≡ q.behind = let tail = pair.1 in cc in
     let moved = subst (λ (x : List ℕ). ReadsValue s (value_mode q.target) x p.value after) same_behind (subst (λ (x : Reference). ReadsValue s (value_mode x) p.behind p.value after) pair.0 p.short.0) in
     let same = one_value s (value_mode q.target) q.behind p.value q.value after behind moved q.short.0 in
@@ -70,7 +70,7 @@ spelled_out (Blank b) = omega arith
 spelled_out Semicolon = omega arith
 spelled_out LineEnd = omega arith
 spelled_out (Comment text) = omega arith
-spelled_out (Set i) = omega (arith, length-append (spell_reference i.target) (EQUALS ∷ spell_pieces i.pieces))
+spelled_out (Set i) = omega (arith, length-append (spell_reference i.target) (equals_sign ∷ spell_pieces i.pieces))
 
 something : (t : Token) (ts : List Token) → [] ≡ spell_tokens (t ∷ ts) ++ [] → ⊥
 something t ts e =
@@ -116,4 +116,4 @@ one_line g text first second a b =
     let x = a.furthest.least b.furthest.assignments b.rest b.furthest.reading in
     let y = b.furthest.least a.furthest.assignments a.rest a.furthest.reading in
     let same : length a.rest ≡ length b.rest = omega arith in
-    a.line_is ∙ ap (λ n. 1 + count_by (λ c. eqb c LINE_FEED) (take (length text - n) text)) same ∙ sym b.line_is
+    a.line_is ∙ ap (λ n. 1 + count_by (λ c. eqb c line_feed) (take (length text - n) text)) same ∙ sym b.line_is

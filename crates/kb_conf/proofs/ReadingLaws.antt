@@ -8,7 +8,7 @@ use Rattle.kb_conf.specs.Place.{line_start}
 use Rattle.kb_conf.specs.Only.{IsOnly}
 use Rattle.kb_conf.specs.Line.{Token, Step, IsStep, spell_token, spell_tokens, is_token, may_stand, place_after, assigns, are_lines, assign_all}
 use Rattle.kb_conf.specs.Value.{scope}
-use Rattle.kb_conf.specs.Reading.{IsReading, IsGood, IsFurthest, IsBadLine, sound_len, line_of}
+use Rattle.kb_conf.specs.Reading.{IsTextReading, IsGood, IsFurthest, IsBadLine, sound_len, line_number}
 use Rattle.kb_conf.specs.Refusal.{AtBadLine}
 use Rattle.kb_conf.specs.declared.reading.ReadError.{ReadError}
 use Rattle.kb_conf.specs.declared.reading.ReadError.TheVariants.{BadLine}
@@ -89,21 +89,21 @@ so_far_step g text earlier place rest step inv only sound =
       sound = sound;
     }
 
-as_reads : (g : Given) (text : List ℕ) (all : List Assignment) (left : List ℕ) → IsReading g text all left → Reads g [] line_start text all left
+as_reads : (g : Given) (text : List ℕ) (all : List Assignment) (left : List ℕ) → IsTextReading g text all left → Reads g [] line_start text all left
 as_reads g text all left r = record { tokens = r.tokens; spelled = r.spelled; lines = r.lines; made = r.made }
 
-reading_sound : (g : Given) (text : List ℕ) (all : List Assignment) (left : List ℕ) → IsReading g text all left → length text ≤ sound_len text + length left
+reading_sound : (g : Given) (text : List ℕ) (all : List Assignment) (left : List ℕ) → IsTextReading g text all left → length text ≤ sound_len text + length left
 reading_sound g text all left r =
     let n : length text ≡ length (spell_tokens r.tokens) + length left = ap length r.spelled ∙ length-append (spell_tokens r.tokens) left in
     omega (arith, r.sound)
 
-as_reading : (g : Given) (text : List ℕ) (all : List Assignment) (left : List ℕ) → Reads g [] line_start text all left → length text ≤ sound_len text + length left → IsReading g text all left
+as_reading : (g : Given) (text : List ℕ) (all : List Assignment) (left : List ℕ) → Reads g [] line_start text all left → length text ≤ sound_len text + length left → IsTextReading g text all left
 as_reading g text all left r sound =
     let n : length text ≡ length (spell_tokens r.tokens) + length left = ap length r.spelled ∙ length-append (spell_tokens r.tokens) left in
     record { tokens = r.tokens; spelled = r.spelled; lines = r.lines; made = r.made; sound = omega arith }
 
 pub good : (g : Given) (text : List ℕ) (all : List Assignment) (place : Place) (rest : List ℕ) → SoFar g text all place rest → rest ≡ [] → IsGood g text all
-good g text all place rest inv ended = subst (λ (x : List ℕ). IsReading g text all x) ended (as_reading g text all rest (inv.forth all rest (stop g all place rest)) inv.sound)
+good g text all place rest inv ended = subst (λ (x : List ℕ). IsTextReading g text all x) ended (as_reading g text all rest (inv.forth all rest (stop g all place rest)) inv.sound)
 
 pub stuck : (g : Given) (text : List ℕ) (earlier : List Assignment) (place : Place) (rest : List ℕ) → SoFar g text earlier place rest → ((y : Step) → IsStep (scope g earlier) place rest y → ⊥) → IsFurthest g text rest
 stuck g text earlier place rest inv none = record {
@@ -128,7 +128,7 @@ broken g text earlier place rest step inv only unsound = record {
   ];
 }
 
-pub bad_at : (g : Given) (text rest : List ℕ) (refusal : ReadError) → IsFurthest g text rest → eqb (length rest) 0 ≡ false → refusal ≡ BadLine (line_of text rest) → AtBadLine (IsBadLine g text) refusal
+pub bad_at : (g : Given) (text rest : List ℕ) (refusal : ReadError) → IsFurthest g text rest → eqb (length rest) 0 ≡ false → refusal ≡ BadLine (line_number text rest) → AtBadLine (IsBadLine g text) refusal
 bad_at g text rest refusal furthest more e =
     subst (λ (x : ReadError). AtBadLine (IsBadLine g text) x) (sym e) (record {
       rest = rest;

@@ -6,9 +6,9 @@ use Rattle.std.proofs.lemmas.Grind.{common_steps}
 use Rattle.std.proofs.lemmas.List.{drop_at, take_at, take-append-drop}
 use Rattle.std.proofs.lemmas.Bool.Decides.{nat_tests}
 use Rattle.std.proofs.lemmas.Bool.{eqb-true, eq-eqb, and_parts, and_from, not-true}
-use Rattle.kb_conf.specs.declared.bytes.TheConstants.{CLOSE_PARENTHESIS}
+use Rattle.kb_conf.specs.Signs.{close_parenthesis}
 use Rattle.kb_conf.specs.Bytes.{continues_name, starts_name}
-use Rattle.kb_conf.specs.Name.{is_name}
+use Rattle.kb_conf.specs.Name.{is_variable_name}
 use Rattle.kb_conf.specs.Piece.{lacks, ends_name, closes, depth_after}
 use Rattle.kb_conf.specs.Front.{byte_at, until_byte, name_at, closing_at}
 use Rattle.std.proofs.lemmas.Option.{cond_some, some_pair_parts}
@@ -80,7 +80,7 @@ stops_from_ends : (text : List ℕ) → ends_name text ≡ true → stops contin
 stops_from_ends [] h = refl
 stops_from_ends (b ∷ bs) h = h
 
-pub name_found : (text name rest : List ℕ) → name_at text ≡ Some (name, rest) → (is_name name ≡ true) × (ends_name rest ≡ true) × (text ≡ name ++ rest)
+pub name_found : (text name rest : List ℕ) → name_at text ≡ Some (name, rest) → (is_variable_name name ≡ true) × (ends_name rest ≡ true) × (text ≡ name ++ rest)
 unfolding name_at
 name_found [] name rest e = absurd (cc)
 name_found (b ∷ bs) name rest e =
@@ -88,12 +88,12 @@ name_found (b ∷ bs) name rest e =
     let picked = cond_some (starts_name b) (b ∷ take n bs, drop n bs) (name, rest) e in
     let same_name : b ∷ take n bs ≡ name = ap (λ (q : List ℕ × List ℕ). q.0) picked.1 in
     let same_rest : drop n bs ≡ rest = ap (λ (q : List ℕ × List ℕ). q.1) picked.1 in (
-      ap is_name (sym same_name) ∙ and_from (starts_name b) (list_all continues_name (take n bs)) picked.0 (passes_front continues_name bs),
+      ap is_variable_name (sym same_name) ∙ and_from (starts_name b) (list_all continues_name (take n bs)) picked.0 (passes_front continues_name bs),
       ap ends_name (sym same_rest) ∙ ends_from_stops (drop n bs) (stops_behind_front continues_name bs),
       ap (λ r. b ∷ r) (sym (take-append-drop n bs)) ∙ joined (b ∷ take n bs) name (drop n bs) rest same_name same_rest,
     )
 
-pub name_again : (name rest : List ℕ) → is_name name ≡ true → ends_name rest ≡ true → name_at (name ++ rest) ≡ Some (name, rest)
+pub name_again : (name rest : List ℕ) → is_variable_name name ≡ true → ends_name rest ≡ true → name_at (name ++ rest) ≡ Some (name, rest)
 unfolding name_at
 name_again [] rest h end = absurd (cc)
 name_again (b ∷ bs) rest h end =
@@ -101,15 +101,15 @@ name_again (b ∷ bs) rest h end =
     let n : prefix_len continues_name (bs ++ rest) ≡ length bs = length_of_front continues_name bs rest parts.1 (stops_from_ends rest end) in
     rw (n, take_at bs rest (length bs) refl, drop_at bs rest (length bs) refl, parts.0) refl
 
-pub closing_found : (depth : ℕ) (text inside rest : List ℕ) → closing_at depth text ≡ Some (inside, rest) → (closes depth inside ≡ true) × (text ≡ inside ++ (CLOSE_PARENTHESIS ∷ rest))
+pub closing_found : (depth : ℕ) (text inside rest : List ℕ) → closing_at depth text ≡ Some (inside, rest) → (closes depth inside ≡ true) × (text ≡ inside ++ (close_parenthesis ∷ rest))
 closing_found depth [] inside rest e = absurd (cc)
 closing_found depth (b ∷ bs) inside rest e =
-    elim (chosen (eqb b CLOSE_PARENTHESIS && eqb depth 0) (Some ([], bs)) _ (Some (inside, rest)) e) [
+    elim (chosen (eqb b close_parenthesis && eqb depth 0) (Some ([], bs)) _ (Some (inside, rest)) e) [
       | inl w ↦
           let parts = some_pair_parts [] inside bs rest w.1 in
-          let here = and_parts (eqb b CLOSE_PARENTHESIS) (eqb depth 0) w.0 in (
+          let here = and_parts (eqb b close_parenthesis) (eqb depth 0) w.0 in (
             ap (closes depth) (sym parts.0) ∙ here.1,
-            joined (b ∷ []) (CLOSE_PARENTHESIS ∷ []) bs rest (ap (λ x. x ∷ []) (eqb-true b CLOSE_PARENTHESIS here.0)) parts.1 ∙ ap (λ x. x ++ (CLOSE_PARENTHESIS ∷ rest)) parts.0,
+            joined (b ∷ []) (close_parenthesis ∷ []) bs rest (ap (λ x. x ∷ []) (eqb-true b close_parenthesis here.0)) parts.1 ∙ ap (λ x. x ++ (close_parenthesis ∷ rest)) parts.0,
           )
       | inr w ↦
           let m = mapped (λ (found : List ℕ × List ℕ). (b ∷ found.0, found.1)) (closing_at (depth_after depth b) bs) (inside, rest) w.1 in
@@ -117,13 +117,13 @@ closing_found depth (b ∷ bs) inside rest e =
           let same_inside : b ∷ m.0.0 ≡ inside = ap (λ (q : List ℕ × List ℕ). q.0) m.2 in
           let same_rest : m.0.1 ≡ rest = ap (λ (q : List ℕ × List ℕ). q.1) m.2 in (
             ap (closes depth) (sym same_inside) ∙ and_from _ _ (ap not w.0) later.0,
-            ap (λ x. b ∷ x) later.1 ∙ joined (b ∷ m.0.0) inside (CLOSE_PARENTHESIS ∷ m.0.1) (CLOSE_PARENTHESIS ∷ rest) same_inside (ap (λ x. CLOSE_PARENTHESIS ∷ x) same_rest),
+            ap (λ x. b ∷ x) later.1 ∙ joined (b ∷ m.0.0) inside (close_parenthesis ∷ m.0.1) (close_parenthesis ∷ rest) same_inside (ap (λ x. close_parenthesis ∷ x) same_rest),
           )
     ]
 
-pub closing_again : (depth : ℕ) (inside rest : List ℕ) → closes depth inside ≡ true → closing_at depth (inside ++ (CLOSE_PARENTHESIS ∷ rest)) ≡ Some (inside, rest)
+pub closing_again : (depth : ℕ) (inside rest : List ℕ) → closes depth inside ≡ true → closing_at depth (inside ++ (close_parenthesis ∷ rest)) ≡ Some (inside, rest)
 closing_again depth [] rest h = rw h refl
 closing_again depth (b ∷ bs) rest h =
-    let parts = and_parts (not (eqb b CLOSE_PARENTHESIS && eqb depth 0)) (closes (depth_after depth b) bs) h in
-    let open_still : (eqb b CLOSE_PARENTHESIS && eqb depth 0) ≡ false = not-true _ parts.0 in
+    let parts = and_parts (not (eqb b close_parenthesis && eqb depth 0)) (closes (depth_after depth b) bs) h in
+    let open_still : (eqb b close_parenthesis && eqb depth 0) ≡ false = not-true _ parts.0 in
     rw (open_still, closing_again (depth_after depth b) bs rest parts.1) refl

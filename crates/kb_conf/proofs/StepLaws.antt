@@ -5,17 +5,17 @@ use Rattle.std.proofs.lemmas.Bool.Decides.{nat_tests}
 use Rattle.std.proofs.lemmas.Bool.{eqb-true, and_parts, and_from, not-true, not-false}
 use Rattle.std.proofs.lemmas.List.{drop_at, take-append-drop}
 use Rattle.std.proofs.lemmas.Option.{none-some, some_pair_parts, same_Some}
-use Rattle.kb_conf.specs.declared.bytes.TheConstants.{LINE_FEED, HASH, SEMICOLON, EQUALS}
+use Rattle.kb_conf.specs.Signs.{line_feed, hash_sign, semicolon, equals_sign}
 use Rattle.kb_conf.specs.declared.place.Place.{Place}
 use Rattle.kb_conf.specs.Bytes.{is_blank, starts_name}
-use Rattle.kb_conf.specs.Name.{is_name, is_number, is_reference, subscript, spell_reference}
+use Rattle.kb_conf.specs.Name.{is_variable_name, is_number, is_reference, subscript, spell_reference}
 use Rattle.kb_conf.specs.Piece.{lacks}
 use Rattle.kb_conf.specs.Place.{may_set, may_part, after_assignment}
 use Rattle.kb_conf.specs.Front.{plain_at}
 use Rattle.kb_conf.specs.Assignment.{Assignment}
 use Rattle.kb_conf.specs.Value.{Scope, spell_pieces}
 use Rattle.kb_conf.specs.Only.{IsOnly}
-use Rattle.kb_conf.specs.Line.{Item, Token, Blank, Semicolon, LineEnd, Comment, Set, Step, IsStep, IsAssignment, AssignmentAt, spell_token, spell_item, is_token, is_item, assigned, assigns, may_stand, place_after, ends_line}
+use Rattle.kb_conf.specs.Line.{AssignmentItem, Token, Blank, Semicolon, LineEnd, Comment, Set, Step, IsStep, IsAssignment, AssignmentAt, spell_token, spell_item, is_token, is_item, assigned, assigns, may_stand, place_after, ends_line}
 use Rattle.kb_conf.proofs.Tools.{chosen}
 use Rattle.kb_conf.proofs.SpanLaws.{stops, passes_front, stops_behind_front, length_of_front}
 
@@ -23,41 +23,41 @@ use Rattle.kb_conf.proofs.SpanLaws.{stops, passes_front, stops_behind_front, len
 abbrev pub plain_step : Place → List ℕ → Step
 plain_step place rest = record { place = place; assigned = []; rest = rest }
 
-name_start : (b : ℕ) → starts_name b ≡ true → (is_blank b ≡ false) × (eqb b LINE_FEED ≡ false) × (eqb b SEMICOLON ≡ false) × (eqb b HASH ≡ false)
+name_start : (b : ℕ) → starts_name b ≡ true → (is_blank b ≡ false) × (eqb b line_feed ≡ false) × (eqb b semicolon ≡ false) × (eqb b hash_sign ≡ false)
 name_start b h = (grind (arith, nat_tests), grind (arith, nat_tests), grind (arith, nat_tests), grind (arith, nat_tests))
 
 -- where an assignment begins, no other item does
-no_plain_name : (place : Place) (name rest : List ℕ) → is_name name ≡ true → plain_at place (name ++ rest) ≡ None
+no_plain_name : (place : Place) (name rest : List ℕ) → is_variable_name name ≡ true → plain_at place (name ++ rest) ≡ None
 unfolding plain_at
 no_plain_name place [] rest h = absurd (cc)
 no_plain_name place (b ∷ bs) rest h =
     let s = name_start b (and_parts (starts_name b) _ h).0 in
     rw (s.0, s.1, s.2, s.3) refl
 
-pub no_plain_item : (s : Scope) (place : Place) (i : Item) (after : List ℕ) → is_item s i after ≡ true → plain_at place (spell_item i ++ after) ≡ None
+pub no_plain_item : (s : Scope) (place : Place) (i : AssignmentItem) (after : List ℕ) → is_item s i after ≡ true → plain_at place (spell_item i ++ after) ≡ None
 no_plain_item s place i after h =
     let named = (and_parts (is_reference i.target) _ h).0 in
-    let tail = EQUALS ∷ spell_pieces i.pieces in
+    let tail = equals_sign ∷ spell_pieces i.pieces in
     ap (plain_at place) (append_assoc (spell_reference i.target) tail after ∙ append_assoc i.target.name (subscript i.target.number) (tail ++ after))
-    ∙ no_plain_name place i.target.name (subscript i.target.number ++ (tail ++ after)) (and_parts (is_name i.target.name) (is_number i.target.number) named).0
+    ∙ no_plain_name place i.target.name (subscript i.target.number ++ (tail ++ after)) (and_parts (is_variable_name i.target.name) (is_number i.target.number) named).0
 
-stops_line : (after : List ℕ) → ends_line after ≡ true → stops (λ c. not (eqb c LINE_FEED)) after ≡ true
+stops_line : (after : List ℕ) → ends_line after ≡ true → stops (λ c. not (eqb c line_feed)) after ≡ true
 stops_line [] h = refl
 stops_line (b ∷ bs) h = rw h refl
 
-ends_stopped : (after : List ℕ) → stops (λ c. not (eqb c LINE_FEED)) after ≡ true → ends_line after ≡ true
+ends_stopped : (after : List ℕ) → stops (λ c. not (eqb c line_feed)) after ≡ true → ends_line after ≡ true
 ends_stopped [] h = refl
-ends_stopped (b ∷ bs) h = not-false (eqb b LINE_FEED) (not-true (not (eqb b LINE_FEED)) h)
+ends_stopped (b ∷ bs) h = not-false (eqb b line_feed) (not-true (not (eqb b line_feed)) h)
 
 -- each item that isn't an assignment is found as it is spelled
-pub plain_again : (s : Scope) (place : Place) (t : Token) (after : List ℕ) → may_stand place t ≡ true → is_token s t after ≡ true → (plain_at place (spell_token t ++ after) ≡ Some (place_after place t, after)) × (assigns s t ≡ []) ⊎ ((i : Item) × (t ≡ Set i))
+pub plain_again : (s : Scope) (place : Place) (t : Token) (after : List ℕ) → may_stand place t ≡ true → is_token s t after ≡ true → (plain_at place (spell_token t ++ after) ≡ Some (place_after place t, after)) × (assigns s t ≡ []) ⊎ ((i : AssignmentItem) × (t ≡ Set i))
 unfolding plain_at
 plain_again s place (Blank b) after stands whole = inl (rw whole refl, refl)
 plain_again s place Semicolon after stands whole = inl (rw stands refl, refl)
 plain_again s place LineEnd after stands whole = inl (refl, refl)
 plain_again s place (Comment text) after stands whole =
-    let parts = and_parts (lacks LINE_FEED text) (ends_line after) whole in
-    let n : prefix_len (λ c. not (eqb c LINE_FEED)) (text ++ after) ≡ length text = length_of_front (λ c. not (eqb c LINE_FEED)) text after parts.0 (stops_line after parts.1) in
+    let parts = and_parts (lacks line_feed text) (ends_line after) whole in
+    let n : prefix_len (λ c. not (eqb c line_feed)) (text ++ after) ≡ length text = length_of_front (λ c. not (eqb c line_feed)) text after parts.0 (stops_line after parts.1) in
     inl (rw (stands, n, drop_at text after (length text) refl) refl, refl)
 plain_again s place (Set i) after stands whole = inr (i, refl)
 
@@ -75,23 +75,23 @@ plain_found s place (b ∷ bs) next rest e =
     elim (chosen (is_blank b) _ _ (Some (next, rest)) e) [
       | inl blank ↦
           moved_step s place _ _ next _ rest blank.1 (record { token = Blank b; spelled = refl; stands = refl; whole = blank.0; next_place = refl; assignments = refl })
-      | inr no_blank ↦ elim (chosen (eqb b LINE_FEED) _ _ (Some (next, rest)) no_blank.1) [
+      | inr no_blank ↦ elim (chosen (eqb b line_feed) _ _ (Some (next, rest)) no_blank.1) [
         | inl line_end ↦
-            moved_step s place _ _ next _ rest line_end.1 (record { token = LineEnd; spelled = head_is b LINE_FEED bs line_end.0; stands = refl; whole = refl; next_place = refl; assignments = refl })
-        | inr no_line_end ↦ elim (chosen (eqb b SEMICOLON && may_part place.last) _ _ (Some (next, rest)) no_line_end.1) [
-          | inl semicolon ↦
-              let parts = and_parts (eqb b SEMICOLON) (may_part place.last) semicolon.0 in
-              moved_step s place _ _ next _ rest semicolon.1 (record { token = Semicolon; spelled = head_is b SEMICOLON bs parts.0; stands = parts.1; whole = refl; next_place = refl; assignments = refl })
-          | inr no_semicolon ↦ elim (chosen (eqb b HASH && place.spaced) _ _ (Some (next, rest)) no_semicolon.1) [
+            moved_step s place _ _ next _ rest line_end.1 (record { token = LineEnd; spelled = head_is b line_feed bs line_end.0; stands = refl; whole = refl; next_place = refl; assignments = refl })
+        | inr no_line_end ↦ elim (chosen (eqb b semicolon && may_part place.last) _ _ (Some (next, rest)) no_line_end.1) [
+          | inl cut ↦
+              let parts = and_parts (eqb b semicolon) (may_part place.last) cut.0 in
+              moved_step s place _ _ next _ rest cut.1 (record { token = Semicolon; spelled = head_is b semicolon bs parts.0; stands = parts.1; whole = refl; next_place = refl; assignments = refl })
+          | inr no_semicolon ↦ elim (chosen (eqb b hash_sign && place.spaced) _ _ (Some (next, rest)) no_semicolon.1) [
             | inl comment ↦
-                let parts = and_parts (eqb b HASH) place.spaced comment.0 in
-                let p : ℕ → Bool = λ c. not (eqb c LINE_FEED) in
+                let parts = and_parts (eqb b hash_sign) place.spaced comment.0 in
+                let p : ℕ → Bool = λ c. not (eqb c line_feed) in
                 let n = prefix_len p bs in
                 moved_step s place _ _ next _ rest comment.1 (record {
                   token = Comment (take n bs);
-                  spelled = head_is b HASH bs parts.0 ∙ ap (λ x. HASH ∷ x) (sym (take-append-drop n bs));
+                  spelled = head_is b hash_sign bs parts.0 ∙ ap (λ x. hash_sign ∷ x) (sym (take-append-drop n bs));
                   stands = parts.1;
-                  whole = and_from (lacks LINE_FEED (take n bs)) (ends_line (drop n bs)) (passes_front p bs) (ends_stopped (drop n bs) (stops_behind_front p bs));
+                  whole = and_from (lacks line_feed (take n bs)) (ends_line (drop n bs)) (passes_front p bs) (ends_stopped (drop n bs) (stops_behind_front p bs));
                   next_place = refl;
                   assignments = refl;
                 })

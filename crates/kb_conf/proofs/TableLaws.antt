@@ -10,10 +10,10 @@ use Rattle.std.proofs.lemmas.Option.{slice_get_read, none-some, same_Some}
 use Rattle.std.proofs.lemmas.List.{length-append, map-append}
 use Rattle.kb_conf.proofs.Tools.{chosen}
 use Rattle.kb_conf.specs.Assignment.{Assignment, last_value, is_of}
-use Rattle.kb_conf.specs.Table.{view_assignment, Key, is_key, place_of, value_at, PointsAtLast}
+use Rattle.kb_conf.specs.Table.{view_assignment, Key, is_entry_key, last_position, value_at, PointsAtLast}
 use Rattle.kb_conf.specs.declared.table.Assignment as code
 
-pub found_value : (list : List code.Assignment) (last : IndexMap Key ℕ (BuildHasherDefault FoldHasher)) (name : List ℕ) (number i : ℕ) (a : code.Assignment) → PointsAtLast list last → place_of last name number ≡ Some i → i < length list → a ≡ get_or list i a → Some a.value.items ≡ last_value (map view_assignment list) name number
+pub found_value : (list : List code.Assignment) (last : IndexMap Key ℕ (BuildHasherDefault FoldHasher)) (name : List ℕ) (number i : ℕ) (a : code.Assignment) → PointsAtLast list last → last_position last name number ≡ Some i → i < length list → a ≡ get_or list i a → Some a.value.items ≡ last_value (map view_assignment list) name number
 found_value list last name number i a inv place lt read =
     let value : value_at list i ≡ Some a.value.items = ap (λ (o : Option code.Assignment). option_map (λ (x : code.Assignment). x.value.items) o) (slice_get_read list (length list) i a refl lt read) in
     sym value ∙ ap (λ (o : Option ℕ). option_and_then (value_at list) o) (sym place) ∙ inv.points name number
@@ -22,7 +22,7 @@ found_value list last name number i a inv place lt read =
 pub empty_points : (list : List code.Assignment) (last : IndexMap Key ℕ (BuildHasherDefault FoldHasher)) → list ≡ [] → last.entries ≡ [] → PointsAtLast list last
 unfolding last_value
 empty_points list last no_list no_entries =
-    let none = λ (name : List ℕ) (number : ℕ). ap (λ (es : List (Key × ℕ)). lookup (is_key name number) es) no_entries in
+    let none = λ (name : List ℕ) (number : ℕ). ap (λ (es : List (Key × ℕ)). lookup (is_entry_key name number) es) no_entries in
     record {
       within = λ name number i e. absurd (none-some i (sym (none name number) ∙ e));
       points = λ name number. ap (λ (o : Option ℕ). option_and_then (value_at list) o) (none name number) ∙ ap (λ (l : List code.Assignment). last_value (map view_assignment l) name number) (sym no_list);
@@ -50,10 +50,10 @@ value_left list a (Some i) within = ap (λ (o : Option code.Assignment). option_
 
 -- where the places of one more assignment are noted, the table points at the last ones again
 pub pushed_points : (list : List code.Assignment) (last new : IndexMap Key ℕ (BuildHasherDefault FoldHasher)) (a : code.Assignment) → PointsAtLast list last
-    → ((name : List ℕ) (number : ℕ) → place_of new name number ≡ cond (is_of name number (view_assignment a)) (Some (length list)) (place_of last name number))
+    → ((name : List ℕ) (number : ℕ) → last_position new name number ≡ cond (is_of name number (view_assignment a)) (Some (length list)) (last_position last name number))
     → PointsAtLast (list ++ a ∷ []) new
 pushed_points list last new a inv noted = record {
-  within = λ name number i e. elim (chosen (is_of name number (view_assignment a)) (Some (length list)) (place_of last name number) (Some i) (sym (noted name number) ∙ e)) [
+  within = λ name number i e. elim (chosen (is_of name number (view_assignment a)) (Some (length list)) (last_position last name number) (Some i) (sym (noted name number) ∙ e)) [
     | inl w ↦
         let here : length list ≡ i = same_Some (length list) i w.1 in
         omega (arith, here, length-append list (a ∷ []))
@@ -66,6 +66,6 @@ pushed_points list last new a inv noted = record {
       ∙ ap (λ (l : List Assignment). last_value l name number) (sym (map-append view_assignment list (a ∷ [])));
 }
   where
-    by_case : (name : List ℕ) (number : ℕ) (b : Bool) → option_and_then (value_at (list ++ a ∷ [])) (cond b (Some (length list)) (place_of last name number)) ≡ cond b (Some a.value.items) (last_value (map view_assignment list) name number)
+    by_case : (name : List ℕ) (number : ℕ) (b : Bool) → option_and_then (value_at (list ++ a ∷ [])) (cond b (Some (length list)) (last_position last name number)) ≡ cond b (Some a.value.items) (last_value (map view_assignment list) name number)
     by_case name number true = ap (λ (o : Option code.Assignment). option_map (λ (x : code.Assignment). x.value.items) o) (slice_get_seam list a)
-    by_case name number false = value_left list a (place_of last name number) (inv.within name number) ∙ inv.points name number
+    by_case name number false = value_left list a (last_position last name number) (inv.within name number) ∙ inv.points name number

@@ -12,18 +12,18 @@ use Rattle.std.proofs.lemmas.List.{length-append, take_at, drop_at, append-nil}
 use Rattle.std.proofs.lemmas.Bool.{and_parts, and_from, ltb-true, eqb-true}
 use Rattle.std.proofs.lemmas.Bool.Decides.{nat_tests}
 use Rattle.kb_conf.specs.Bytes.{starts_name, continues_name, is_active, is_blank}
-use Rattle.kb_conf.specs.declared.bytes.TheConstants.{LINE_FEED, HASH, QUOTE, SEMICOLON, BACKSLASH, DOLLAR, APOSTROPHE, OPEN_BRACE, CLOSE_BRACE, CLOSE_BRACKET, EQUALS}
+use Rattle.kb_conf.specs.Signs.{line_feed, hash_sign, double_quote, semicolon, backslash, dollar_sign, apostrophe, open_brace, close_brace, close_bracket, equals_sign}
 use Rattle.kb_conf.specs.declared.place.Place.{Place}
 use Rattle.kb_conf.specs.Assignment.{Assignment, Given, given_value, last_value, is_of}
-use Rattle.kb_conf.specs.Line.{Item, Token, Blank, Semicolon, LineEnd, Comment, Set, spell_item, item_mode, item_value, is_item, assigned, spell_token, spell_tokens, is_token, may_stand, place_after, assigns, are_lines, assign_all, ends_line}
+use Rattle.kb_conf.specs.Line.{AssignmentItem, Token, Blank, Semicolon, LineEnd, Comment, Set, spell_item, item_mode, item_value, is_item, assigned, spell_token, spell_tokens, is_token, may_stand, place_after, assigns, are_lines, assign_all, ends_line}
 use Rattle.kb_conf.specs.Value.{scope}
 use Rattle.kb_conf.specs.Place.{line_start}
 use Rattle.kb_conf.specs.Reading.{IsGood}
 use Rattle.kb_conf.specs.TextOf.{IsTextAssignment, IsTextGiven}
 use Rattle.kb_conf.proofs.Tools.{chosen}
 use Rattle.std.proofs.lemmas.Option.{none-some, cond_some, same_Some}
-use Rattle.kb_conf.specs.Name.{Reference, is_name, is_number, is_reference, subscript, spell_reference, decimal}
-use Rattle.kb_conf.specs.Piece.{Piece, Bare, Escaped, Single, Quote, Plain, Braced, Command, Backquoted, Dollar, Mode, spell, fits, mode_after, lacks}
+use Rattle.kb_conf.specs.Name.{Reference, is_variable_name, is_number, is_reference, subscript, spell_reference, decimal}
+use Rattle.kb_conf.specs.Piece.{Piece, Bare, Escaped, Single, Quote, Plain, Braced, Command, Backquoted, Dollar, Mode, spell, fits_here, mode_after, lacks}
 use Rattle.kb_conf.specs.Value.{Scope, gives, give_all, expand, look_up, spell_pieces, are_value, ends_item}
 
 -- the longest valid front is UTF-8
@@ -102,7 +102,7 @@ low_digit : (b : ℕ) → is_ascii_digit b ≡ true → is_low b ≡ true
 unfolding is_low
 low_digit b h = grind (arith, nat_tests)
 
-low_name : (name : List ℕ) → is_name name ≡ true → list_all is_low name ≡ true
+low_name : (name : List ℕ) → is_variable_name name ≡ true → list_all is_low name ≡ true
 low_name [] h = absurd (cc)
 low_name (b ∷ bs) h =
     let parts = and_parts (starts_name b) (list_all continues_name bs) h in
@@ -111,11 +111,11 @@ low_name (b ∷ bs) h =
 low_subscript : (number : Option ℕ) → is_number number ≡ true → list_all is_low (subscript number) ≡ true
 unfolding is_low
 low_subscript None h = refl
-low_subscript (Some n) h = all_append is_low (decimal n) (CLOSE_BRACKET ∷ []) (all_of is_ascii_digit is_low (decimal n) low_digit (digits_again n (ltb-true n 256 h)).digits) refl
+low_subscript (Some n) h = all_append is_low (decimal n) (close_bracket ∷ []) (all_of is_ascii_digit is_low (decimal n) low_digit (digits_again n (ltb-true n 256 h)).digits) refl
 
 low_reference : (r : Reference) → is_reference r ≡ true → list_all is_low (spell_reference r) ≡ true
 low_reference r h =
-    let parts = and_parts (is_name r.name) (is_number r.number) h in
+    let parts = and_parts (is_variable_name r.name) (is_number r.number) h in
     all_append is_low r.name (subscript r.number) (low_name r.name parts.0) (low_subscript r.number parts.1)
 
 -- what a scope's variables stand for is text
@@ -148,39 +148,39 @@ expanded s m r written env w = by_value (look_up s r) refl
 join3 : (xs ys zs : List ℕ) → IsUtf8 xs → IsUtf8 ys → IsUtf8 zs → IsUtf8 (xs ++ (ys ++ zs))
 join3 xs ys zs a b d = IsUtf8-append xs (ys ++ zs) a (IsUtf8-append ys zs b d)
 
-brace : list_all is_low (CLOSE_BRACE ∷ []) ≡ true
+brace : list_all is_low (close_brace ∷ []) ≡ true
 unfolding is_low
 brace = refl
 
-replaced : (s : Scope) (m : Mode) (p : Piece) (before behind : List ℕ) → GivesText s → fits m p behind ≡ true → IsUtf8 (before ++ (spell p ++ behind)) → IsUtf8 (before ++ (gives s m p ++ behind))
+replaced : (s : Scope) (m : Mode) (p : Piece) (before behind : List ℕ) → GivesText s → fits_here m p behind ≡ true → IsUtf8 (before ++ (spell p ++ behind)) → IsUtf8 (before ++ (gives s m p ++ behind))
 replaced s m (Bare b) before behind env h u = u
-replaced s m (Escaped b) before behind env h u = by_break (eqb b LINE_FEED) refl
+replaced s m (Escaped b) before behind env h u = by_break (eqb b line_feed) refl
   where
     c : Cut before (b ∷ behind)
-    c = cut before BACKSLASH (b ∷ behind) (lit< tt) u
+    c = cut before backslash (b ∷ behind) (lit< tt) u
 
-    by_active : (t : Bool) → IsUtf8 (before ++ (cond t (BACKSLASH ∷ b ∷ []) (b ∷ []) ++ behind))
+    by_active : (t : Bool) → IsUtf8 (before ++ (cond t (backslash ∷ b ∷ []) (b ∷ []) ++ behind))
     by_active true = u
     by_active false = IsUtf8-append before (b ∷ behind) c.before c.behind
 
-    by_break : (t : Bool) → eqb b LINE_FEED ≡ t → IsUtf8 (before ++ (cond t [] (cond (m.quoted && not (is_active b)) (BACKSLASH ∷ b ∷ []) (b ∷ [])) ++ behind))
-    by_break true e = IsUtf8-append before behind c.before (cut [] b behind (omega (arith, eqb-true b LINE_FEED e)) c.behind).behind
+    by_break : (t : Bool) → eqb b line_feed ≡ t → IsUtf8 (before ++ (cond t [] (cond (m.quoted && not (is_active b)) (backslash ∷ b ∷ []) (b ∷ [])) ++ behind))
+    by_break true e = IsUtf8-append before behind c.before (cut [] b behind (omega (arith, eqb-true b line_feed e)) c.behind).behind
     by_break false e = by_active (m.quoted && not (is_active b))
 replaced s m (Single text) before behind env h u =
-    let c = cut before APOSTROPHE ((text ++ (APOSTROPHE ∷ [])) ++ behind) (lit< tt) u in
-    let d = cut text APOSTROPHE behind (lit< tt) (subst IsUtf8 (append_assoc text (APOSTROPHE ∷ []) behind) c.behind) in
+    let c = cut before apostrophe ((text ++ (apostrophe ∷ [])) ++ behind) (lit< tt) u in
+    let d = cut text apostrophe behind (lit< tt) (subst IsUtf8 (append_assoc text (apostrophe ∷ []) behind) c.behind) in
     join3 before text behind c.before d.before d.behind
-replaced s m Quote before behind env h u = let c = cut before QUOTE behind (lit< tt) u in IsUtf8-append before behind c.before c.behind
+replaced s m Quote before behind env h u = let c = cut before double_quote behind (lit< tt) u in IsUtf8-append before behind c.before c.behind
 replaced s m (Plain name) before behind env h u =
-    let c = cut before DOLLAR (name ++ behind) (lit< tt) u in
-    let low = low_name name (and_parts (is_name name) _ h).0 in
-    join3 before (expand s m (record { name = name; number = None }) (DOLLAR ∷ name)) behind c.before (expanded s m (record { name = name; number = None }) (DOLLAR ∷ name) env (IsUtf8-append (DOLLAR ∷ []) name (text_one DOLLAR (lit< tt)) (text_low name low))) (behind_low name behind low c.behind)
+    let c = cut before dollar_sign (name ++ behind) (lit< tt) u in
+    let low = low_name name (and_parts (is_variable_name name) _ h).0 in
+    join3 before (expand s m (record { name = name; number = None }) (dollar_sign ∷ name)) behind c.before (expanded s m (record { name = name; number = None }) (dollar_sign ∷ name) env (IsUtf8-append (dollar_sign ∷ []) name (text_one dollar_sign (lit< tt)) (text_low name low))) (behind_low name behind low c.behind)
 replaced s m (Braced r) before behind env h u =
-    let inside = spell_reference r ++ (CLOSE_BRACE ∷ []) in
-    let low = all_append is_low (spell_reference r) (CLOSE_BRACE ∷ []) (low_reference r h) brace in
-    let c = cut before DOLLAR (OPEN_BRACE ∷ (inside ++ behind)) (lit< tt) u in
-    let d = cut [] OPEN_BRACE (inside ++ behind) (lit< tt) c.behind in
-    join3 before (expand s m r (spell (Braced r))) behind c.before (expanded s m r (spell (Braced r)) env (IsUtf8-append (DOLLAR ∷ []) (OPEN_BRACE ∷ inside) (text_one DOLLAR (lit< tt)) (IsUtf8-append (OPEN_BRACE ∷ []) inside (text_one OPEN_BRACE (lit< tt)) (text_low inside low)))) (behind_low inside behind low d.behind)
+    let inside = spell_reference r ++ (close_brace ∷ []) in
+    let low = all_append is_low (spell_reference r) (close_brace ∷ []) (low_reference r h) brace in
+    let c = cut before dollar_sign (open_brace ∷ (inside ++ behind)) (lit< tt) u in
+    let d = cut [] open_brace (inside ++ behind) (lit< tt) c.behind in
+    join3 before (expand s m r (spell (Braced r))) behind c.before (expanded s m r (spell (Braced r)) env (IsUtf8-append (dollar_sign ∷ []) (open_brace ∷ inside) (text_one dollar_sign (lit< tt)) (IsUtf8-append (open_brace ∷ []) inside (text_one open_brace (lit< tt)) (text_low inside low)))) (behind_low inside behind low d.behind)
 replaced s m (Command text) before behind env h u = u
 replaced s m (Backquoted text) before behind env h u = u
 replaced s m Dollar before behind env h u = u
@@ -188,14 +188,14 @@ replaced s m Dollar before behind env h u = u
 value_in_place : (s : Scope) (ps : List Piece) (m : Mode) (before after : List ℕ) → GivesText s → are_value m ps after ≡ true → IsUtf8 (before ++ (spell_pieces ps ++ after)) → IsUtf8 (before ++ (give_all s m ps ++ after))
 value_in_place s [] m before after env h u = u
 value_in_place s (p ∷ ps) m before after env h u =
-    let parts = and_parts (fits m p (spell_pieces ps ++ after)) (are_value (mode_after m p) ps after) h in
+    let parts = and_parts (fits_here m p (spell_pieces ps ++ after)) (are_value (mode_after m p) ps after) h in
     let behind = spell_pieces ps ++ after in
     let one = replaced s m p before behind env parts.0 (subst (λ (x : List ℕ). IsUtf8 (before ++ x)) (append_assoc (spell p) (spell_pieces ps) after) u) in
     let all = value_in_place s ps (mode_after m p) (before ++ gives s m p) after env parts.1 (subst IsUtf8 (sym (append_assoc before (gives s m p) behind)) one) in
     subst (λ (x : List ℕ). IsUtf8 (before ++ x)) (sym (append_assoc (gives s m p) (give_all s (mode_after m p) ps) after))
     (subst IsUtf8 (append_assoc before (gives s m p) (give_all s (mode_after m p) ps ++ after)) all)
 
-item_end : (b : ℕ) → (is_blank b || eqb b SEMICOLON || eqb b LINE_FEED) ≡ true → b < 128
+item_end : (b : ℕ) → (is_blank b || eqb b semicolon || eqb b line_feed) ≡ true → b < 128
 item_end b h = grind (arith, nat_tests)
 
 -- a text before the end of an item may be cut there
@@ -208,23 +208,23 @@ cut_at_end xs (b ∷ bs) h u =
 
 value_ends : (ps : List Piece) (m : Mode) (after : List ℕ) → are_value m ps after ≡ true → ends_item after ≡ true
 value_ends [] m after h = (and_parts (not m.quoted) (ends_item after) h).1
-value_ends (p ∷ ps) m after h = value_ends ps (mode_after m p) after (and_parts (fits m p (spell_pieces ps ++ after)) (are_value (mode_after m p) ps after) h).1
+value_ends (p ∷ ps) m after h = value_ends ps (mode_after m p) after (and_parts (fits_here m p (spell_pieces ps ++ after)) (are_value (mode_after m p) ps after) h).1
 
-item_text : (s : Scope) (i : Item) (after : List ℕ) → GivesText s → is_item s i after ≡ true → IsUtf8 (spell_item i ++ after) → IsTextAssignment (assigned s i) × IsUtf8 after
+item_text : (s : Scope) (i : AssignmentItem) (after : List ℕ) → GivesText s → is_item s i after ≡ true → IsUtf8 (spell_item i ++ after) → IsTextAssignment (assigned s i) × IsUtf8 after
 item_text s i after env h u =
     let whole = and_parts (is_reference i.target) _ h in
     let valued = (and_parts (are_value (item_mode i) i.pieces after) _ whole.1).0 in
     let low = low_reference i.target whole.0 in
-    let tail = EQUALS ∷ (spell_pieces i.pieces ++ after) in
-    let flat = subst IsUtf8 (append_assoc (spell_reference i.target) (EQUALS ∷ spell_pieces i.pieces) after) u in
-    let behind = cut [] EQUALS (spell_pieces i.pieces ++ after) (lit< tt) (behind_low (spell_reference i.target) tail low flat) in
+    let tail = equals_sign ∷ (spell_pieces i.pieces ++ after) in
+    let flat = subst IsUtf8 (append_assoc (spell_reference i.target) (equals_sign ∷ spell_pieces i.pieces) after) u in
+    let behind = cut [] equals_sign (spell_pieces i.pieces ++ after) (lit< tt) (behind_low (spell_reference i.target) tail low flat) in
     let value = cut_at_end (item_value s i) after (value_ends i.pieces (item_mode i) after valued) (value_in_place s i.pieces (item_mode i) [] after env valued behind.behind) in
-    (record { name = text_low i.target.name (low_name i.target.name (and_parts (is_name i.target.name) _ whole.0).0); value = value.0 }, value.1)
+    (record { name = text_low i.target.name (low_name i.target.name (and_parts (is_variable_name i.target.name) _ whole.0).0); value = value.0 }, value.1)
 
 line_end_text : (text after : List ℕ) → ends_line after ≡ true → IsUtf8 (text ++ after) → IsUtf8 after
 line_end_text text [] h u = IsUtf8-nil
 line_end_text text (b ∷ bs) h u =
-    let low : b < 128 = omega (arith, eqb-true b LINE_FEED h) in
+    let low : b < 128 = omega (arith, eqb-true b line_feed h) in
     IsUtf8-append (b ∷ []) bs (text_one b low) (cut text b bs low u).behind
 
 push_all : (P : Assignment → Type 0) (xs : List Assignment) (x : Assignment) → AllByRecursion P xs → P x → AllByRecursion P (xs ++ (x ∷ []))
@@ -240,10 +240,10 @@ blank_low b h = grind (arith, nat_tests)
 -- a token leaves text behind it, and what it assigns is text
 token_text : (s : Scope) (t : Token) (after : List ℕ) → GivesText s → is_token s t after ≡ true → IsUtf8 (spell_token t ++ after) → AllByRecursion IsTextAssignment s.earlier → AllByRecursion IsTextAssignment (s.earlier ++ assigns s t) × IsUtf8 after
 token_text s (Blank b) after env h u all = (unchanged s.earlier all, (cut [] b after (blank_low b h) u).behind)
-token_text s Semicolon after env h u all = (unchanged s.earlier all, (cut [] SEMICOLON after (lit< tt) u).behind)
-token_text s LineEnd after env h u all = (unchanged s.earlier all, (cut [] LINE_FEED after (lit< tt) u).behind)
+token_text s Semicolon after env h u all = (unchanged s.earlier all, (cut [] semicolon after (lit< tt) u).behind)
+token_text s LineEnd after env h u all = (unchanged s.earlier all, (cut [] line_feed after (lit< tt) u).behind)
 token_text s (Comment text) after env h u all =
-    (unchanged s.earlier all, line_end_text text after (and_parts (lacks LINE_FEED text) (ends_line after) h).1 (cut [] HASH (text ++ after) (lit< tt) u).behind)
+    (unchanged s.earlier all, line_end_text text after (and_parts (lacks line_feed text) (ends_line after) h).1 (cut [] hash_sign (text ++ after) (lit< tt) u).behind)
 token_text s (Set i) after env h u all = let r = item_text s i after env h u in (push_all IsTextAssignment s.earlier (assigned s i) all r.0, r.1)
 
 last_text : (xs : List Assignment) (name : List ℕ) (number : ℕ) (value : List ℕ) → AllByRecursion IsTextAssignment xs → last_value xs name number ≡ Some value → IsUtf8 value

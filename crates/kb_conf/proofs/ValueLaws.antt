@@ -4,25 +4,24 @@ use Rattle.std.proofs.lemmas.Bool.Decides.{nat_tests}
 use Rattle.std.proofs.lemmas.Bool.{and_parts, and_from, not-true, leb-true, le-leb, false≢true}
 use Rattle.std.proofs.lemmas.Option.{none-some, some_pair_parts}
 use Rattle.std.proofs.lemmas.List.{length-append, append-nil}
-use Rattle.kb_conf.specs.declared.value.TheConstants.{LONGEST_VALUE}
 use Rattle.kb_conf.specs.Bytes.{stands_for_itself, is_blank}
-use Rattle.kb_conf.specs.declared.bytes.TheConstants.{QUOTE, BACKSLASH, DOLLAR, BACKQUOTE, APOSTROPHE, SEMICOLON, LINE_FEED}
-use Rattle.kb_conf.specs.Piece.{Piece, Mode, spell, fits, mode_after}
+use Rattle.kb_conf.specs.Signs.{double_quote, backslash, dollar_sign, backquote, apostrophe, semicolon, line_feed}
+use Rattle.kb_conf.specs.Piece.{Piece, Mode, spell, fits_here, mode_after}
 use Rattle.kb_conf.specs.Front.{piece_at}
-use Rattle.kb_conf.specs.Value.{Scope, ReadsValue, gives, give_all, spell_pieces, are_value, ends_item, IsShortValue}
+use Rattle.kb_conf.specs.Value.{longest_value, Scope, ReadsValue, gives, give_all, spell_pieces, are_value, ends_item, IsShortValue}
 use Rattle.kb_conf.specs.Only.{IsOnly}
 use Rattle.kb_conf.proofs.PieceLaws.{piece_found, piece_again}
 
 -- a byte that ends an item begins no piece outside double quotes
 record EndsItem (b : ℕ) : Type 0 where
-  quote : eqb b QUOTE ≡ false
-  backslash : eqb b BACKSLASH ≡ false
-  dollar : eqb b DOLLAR ≡ false
-  backquote : eqb b BACKQUOTE ≡ false
-  apostrophe : eqb b APOSTROPHE ≡ false
+  quote : eqb b double_quote ≡ false
+  backslash : eqb b backslash ≡ false
+  dollar : eqb b dollar_sign ≡ false
+  backquote : eqb b backquote ≡ false
+  apostrophe : eqb b apostrophe ≡ false
   bare : stands_for_itself false b ≡ false
 
-end_byte : (b : ℕ) → (is_blank b || eqb b SEMICOLON || eqb b LINE_FEED) ≡ true → EndsItem b
+end_byte : (b : ℕ) → (is_blank b || eqb b semicolon || eqb b line_feed) ≡ true → EndsItem b
 end_byte b h = record {
   quote = grind (arith, nat_tests);
   backslash = grind (arith, nat_tests);
@@ -46,7 +45,7 @@ with_piece s m text p behind value after e r =
     record {
       pieces = p ∷ r.pieces;
       spelled = here.spelling ∙ ap (λ x. spell p ++ x) r.spelled ∙ sym (append_assoc (spell p) (spell_pieces r.pieces) after);
-      fitting = and_from (fits m p (spell_pieces r.pieces ++ after)) (are_value (mode_after m p) r.pieces after) (ap (fits m p) (sym r.spelled) ∙ here.fitting) r.fitting;
+      fitting = and_from (fits_here m p (spell_pieces r.pieces ++ after)) (are_value (mode_after m p) r.pieces after) (ap (fits_here m p) (sym r.spelled) ∙ here.fitting) r.fitting;
       given = ap (λ x. gives s m p ++ x) r.given;
     }
 
@@ -64,7 +63,7 @@ behind_piece s m text p behind value after e r = by_pieces r.pieces r.spelled r.
         let parts = and_parts (not m.quoted) (ends_item after) fitting in
         absurd (none-some (p, behind) (sym (no_piece_at_end m after (not-true m.quoted parts.0) parts.1) ∙ ap (piece_at m) (sym spelled) ∙ e))
     by_pieces (q ∷ qs) spelled fitting given =
-        let parts = and_parts (fits m q (spell_pieces qs ++ after)) (are_value (mode_after m q) qs after) fitting in
+        let parts = and_parts (fits_here m q (spell_pieces qs ++ after)) (are_value (mode_after m q) qs after) fitting in
         let again = piece_again m q (spell_pieces qs ++ after) parts.0 in
         let pair = some_pair_parts q p (spell_pieces qs ++ after) behind (sym again ∙ ap (piece_at m) (sym (append_assoc (spell q) (spell_pieces qs) after) ∙ sym spelled) ∙ e) in
         subst (λ (x : Piece). Left s m x behind value after) pair.0 (record {
@@ -88,7 +87,7 @@ at_end s m text value after none r = by_pieces r.pieces r.spelled r.fitting r.gi
         let parts = and_parts (not m.quoted) (ends_item after) fitting in
         record { empty = given; here = sym spelled; outside = not-true m.quoted parts.0; ends = ap ends_item spelled ∙ parts.1 }
     by_pieces (q ∷ qs) spelled fitting given =
-        let parts = and_parts (fits m q (spell_pieces qs ++ after)) (are_value (mode_after m q) qs after) fitting in
+        let parts = and_parts (fits_here m q (spell_pieces qs ++ after)) (are_value (mode_after m q) qs after) fitting in
         let again = piece_again m q (spell_pieces qs ++ after) parts.0 in
         absurd (none-some (q, spell_pieces qs ++ after) (sym none ∙ ap (piece_at m) (spelled ∙ append_assoc (spell q) (spell_pieces qs) after) ∙ again))
 
@@ -110,16 +109,16 @@ continues_step s start text value m rest p behind inv e = record {
 }
 
 -- a front that is too long is that of no short value
-pub too_long : (s : Scope) (start : Mode) (text value : List ℕ) (m : Mode) (rest : List ℕ) → Continues s start text value m rest → LONGEST_VALUE < length value → (v : List ℕ × List ℕ) → IsShortValue s start text v → ⊥
+pub too_long : (s : Scope) (start : Mode) (text value : List ℕ) (m : Mode) (rest : List ℕ) → Continues s start text value m rest → longest_value < length value → (v : List ℕ × List ℕ) → IsShortValue s start text v → ⊥
 too_long s start text value m rest inv long v h =
     let so_far = inv.back v.0 v.1 h.0 in
-    let short = leb-true (length v.0) LONGEST_VALUE h.1 in
+    let short = leb-true (length v.0) longest_value h.1 in
     let whole : length v.0 ≡ length value + length so_far.0 = ap length so_far.1 ∙ length-append value so_far.0 in
     omega arith
 
-pub value_done : (s : Scope) (start : Mode) (text value : List ℕ) (m : Mode) (rest : List ℕ) → Continues s start text value m rest → length value ≤ LONGEST_VALUE → piece_at m rest ≡ None → (not m.quoted && ends_item rest) ≡ true → IsOnly (IsShortValue s start text) (Some (value, rest))
+pub value_done : (s : Scope) (start : Mode) (text value : List ℕ) (m : Mode) (rest : List ℕ) → Continues s start text value m rest → length value ≤ longest_value → piece_at m rest ≡ None → (not m.quoted && ends_item rest) ≡ true → IsOnly (IsShortValue s start text) (Some (value, rest))
 value_done s start text value m rest inv short none ends = (
-  (subst (λ (x : List ℕ). ReadsValue s start text x rest) (append-nil value) (inv.forth [] rest (record { pieces = []; spelled = refl; fitting = ends; given = refl })), le-leb (length value) LONGEST_VALUE short),
+  (subst (λ (x : List ℕ). ReadsValue s start text x rest) (append-nil value) (inv.forth [] rest (record { pieces = []; spelled = refl; fitting = ends; given = refl })), le-leb (length value) longest_value short),
   λ y h.
       let so_far = inv.back y.0 y.1 h.0 in
       let ended = at_end s m rest so_far.0 y.1 none so_far.2 in

@@ -49,13 +49,13 @@ missing values =
     else if not (is_given (value_of values (codes "PACKAGE_VERSION") 0)) then Some (codes "PACKAGE_VERSION")
     else None
 
-abbrev pub lacks : Option (List ℕ) → Option Refusal
-lacks None = None
-lacks (Some name) = Some (refusal.ConfMissing name)
+abbrev pub missing_refusal : Option (List ℕ) → Option Refusal
+missing_refusal None = None
+missing_refusal (Some name) = Some (refusal.ConfMissing name)
 
 abbrev pub is_bad : Option (List ℕ) → Option Refusal
 is_bad None = None
 is_bad (Some name) = Some (refusal.ConfValue name)
 
 unfoldable pub value_refusal : Values → Option Refusal
-value_refusal values = option_or (lacks (missing values)) (is_bad (bad_value values))
+value_refusal values = option_or (missing_refusal (missing values)) (is_bad (bad_value values))

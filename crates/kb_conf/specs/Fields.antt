@@ -139,15 +139,15 @@ names_of values = map (λ (a : Assignment). a.name) values
 abbrev pub unused_of : Values → List (List ℕ)
 unused_of values = each_once (filter is_unused (names_of values))
 
-abbrev pub key_of : Values → Key
-key_of values = record {
+abbrev pub package_key : Values → Key
+package_key values = record {
   «module» = value_of values (codes "PACKAGE_NAME") 0;
   version = value_of values (codes "PACKAGE_VERSION") 0;
 }
 
 unfoldable pub fields_of : Given → Values → Conf
 fields_of given values = record {
-  key = key_of values;
+  key = package_key values;
   targets = map (target_at values) (target_numbers values);
   patches = patches_of given values;
   make = make_of given values;

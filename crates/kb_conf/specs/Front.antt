@@ -3,7 +3,7 @@
 use Rattle.std.specs.Prelude.{◌≡◌, ℕ, ◌+◌, ◌-◌, ◌*◌, Bool, not, ◌&&◌, List, [], ◌∷◌, Option, Some, None, option_map, option_and_then, nat_lt, ◌==◌, if◌then◌else◌, take, drop, length, ◌<◌}
 use Rattle.std.specs.List.{prefix_len}
 use Rattle.std.specs.Char.{is_ascii_digit}
-use Rattle.kb_conf.specs.declared.bytes.TheConstants.{ZERO, QUOTE, DOLLAR, APOSTROPHE, OPEN_PARENTHESIS, CLOSE_PARENTHESIS, BACKSLASH, BACKQUOTE, OPEN_BRACE, CLOSE_BRACE, OPEN_BRACKET, CLOSE_BRACKET, LINE_FEED, SEMICOLON, HASH}
+use Rattle.kb_conf.specs.Signs.{digit_zero, double_quote, dollar_sign, apostrophe, open_parenthesis, close_parenthesis, backslash, backquote, open_brace, close_brace, open_bracket, close_bracket, line_feed, semicolon, hash_sign}
 use Rattle.kb_conf.specs.Bytes.{is_blank, starts_name, continues_name, begins_expansion, stands_for_itself}
 use Rattle.kb_conf.specs.declared.place.Place.{Place}
 use Rattle.kb_conf.specs.Place.{line_start, may_part, after_blank, after_semicolon}
@@ -31,19 +31,19 @@ abbrev pub below_256 : ℕ → Option ℕ
 below_256 n = if nat_lt n 256 then Some n else None
 
 -- what these digits write, where that has no leading zero and is below 256
-abbrev pub number_of : List ℕ → Option ℕ
-number_of [] = None
-number_of (a ∷ []) = below_256 (a - ZERO)
-number_of (a ∷ b ∷ []) =
-    if a == ZERO then None else below_256 (10 * (a - ZERO) + (b - ZERO))
-number_of (a ∷ b ∷ c ∷ []) =
-    if a == ZERO then None else below_256 (100 * (a - ZERO) + 10 * (b - ZERO) + (c - ZERO))
-number_of (a ∷ b ∷ c ∷ d ∷ more) = None
+abbrev pub number_written : List ℕ → Option ℕ
+number_written [] = None
+number_written (a ∷ []) = below_256 (a - digit_zero)
+number_written (a ∷ b ∷ []) =
+    if a == digit_zero then None else below_256 (10 * (a - digit_zero) + (b - digit_zero))
+number_written (a ∷ b ∷ c ∷ []) =
+    if a == digit_zero then None else below_256 (100 * (a - digit_zero) + 10 * (b - digit_zero) + (c - digit_zero))
+number_written (a ∷ b ∷ c ∷ d ∷ more) = None
 
 unfoldable pub number_at : List ℕ → Option (ℕ × List ℕ)
 number_at text =
     let n = prefix_len is_ascii_digit text in
-    option_map (λ number. (number, drop n text)) (number_of (take n text))
+    option_map (λ number. (number, drop n text)) (number_written (take n text))
 
 infixl 10 ◌>>=◌
 abbrev pub ◌>>=◌ : {A B : Type 0} → Option A → (A → Option B) → Option B
@@ -52,13 +52,13 @@ o >>= f = option_and_then f o
 unfoldable pub bracketed_at : List ℕ → Option (ℕ × List ℕ)
 bracketed_at text = do
   number ← number_at text
-  rest ← byte_at CLOSE_BRACKET number.1
+  rest ← byte_at close_bracket number.1
   Some (number.0, rest)
 
 unfoldable pub subscript_at : List ℕ → Option (Option ℕ × List ℕ)
 subscript_at [] = Some (None, [])
 subscript_at (b ∷ bs) =
-    if b == OPEN_BRACKET then option_map (λ found. (Some found.0, found.1)) (bracketed_at bs)
+    if b == open_bracket then option_map (λ found. (Some found.0, found.1)) (bracketed_at bs)
     else Some (None, b ∷ bs)
 
 unfoldable pub reference_at : List ℕ → Option (Reference × List ℕ)
@@ -71,21 +71,21 @@ reference_at text = do
 abbrev pub closing_at : ℕ → List ℕ → Option (List ℕ × List ℕ)
 closing_at depth [] = None
 closing_at depth (b ∷ bs) =
-    if b == CLOSE_PARENTHESIS && depth == 0 then Some ([], bs)
+    if b == close_parenthesis && depth == 0 then Some ([], bs)
     else option_map (λ found. (b ∷ found.0, found.1)) (closing_at (depth_after depth b) bs)
 
 -- the pieces that begin with a $, behind it
 unfoldable pub braced_at : List ℕ → Option (Piece × List ℕ)
 braced_at text = do
   found ← reference_at text
-  rest ← byte_at CLOSE_BRACE found.1
+  rest ← byte_at close_brace found.1
   Some (Braced found.0, rest)
 
 unfoldable pub expansion_at : Bool → List ℕ → Option (Piece × List ℕ)
 expansion_at command [] = Some (Dollar, [])
 expansion_at command (b ∷ bs) =
-    if b == OPEN_BRACE then braced_at bs
-    else if b == OPEN_PARENTHESIS then (if command then option_map (λ found. (Command found.0, found.1)) (closing_at 0 bs) else None)
+    if b == open_brace then braced_at bs
+    else if b == open_parenthesis then (if command then option_map (λ found. (Command found.0, found.1)) (closing_at 0 bs) else None)
     else if starts_name b then option_map (λ found. (Plain found.0, found.1)) (name_at (b ∷ bs))
     else if begins_expansion b then None
     else Some (Dollar, b ∷ bs)
@@ -97,12 +97,12 @@ escaped_at (b ∷ bs) = Some (Escaped b, bs)
 unfoldable pub piece_at : Mode → List ℕ → Option (Piece × List ℕ)
 piece_at m [] = None
 piece_at m (b ∷ bs) =
-    if b == QUOTE then Some (Quote, bs)
-    else if b == BACKSLASH then escaped_at bs
-    else if b == DOLLAR then expansion_at m.command bs
-    else if b == BACKQUOTE then (if m.command then option_map (λ found. (Backquoted found.0, found.1)) (until_byte BACKQUOTE bs) else None)
+    if b == double_quote then Some (Quote, bs)
+    else if b == backslash then escaped_at bs
+    else if b == dollar_sign then expansion_at m.command bs
+    else if b == backquote then (if m.command then option_map (λ found. (Backquoted found.0, found.1)) (until_byte backquote bs) else None)
     else if stands_for_itself m.quoted b then Some (Bare b, bs)
-    else if b == APOSTROPHE then option_map (λ found. (Single found.0, found.1)) (until_byte APOSTROPHE bs)
+    else if b == apostrophe then option_map (λ found. (Single found.0, found.1)) (until_byte apostrophe bs)
     else None
 
 -- a piece at the front, how it is written, and what follows it
@@ -116,7 +116,7 @@ unfoldable pub plain_at : Place → List ℕ → Option (Place × List ℕ)
 plain_at place [] = None
 plain_at place (b ∷ bs) =
     if is_blank b then Some (after_blank place, bs)
-    else if b == LINE_FEED then Some (line_start, bs)
-    else if b == SEMICOLON && may_part place.last then Some (after_semicolon place, bs)
-    else if b == HASH && place.spaced then Some (place, drop (prefix_len (λ c. not (c == LINE_FEED)) bs) bs)
+    else if b == line_feed then Some (line_start, bs)
+    else if b == semicolon && may_part place.last then Some (after_semicolon place, bs)
+    else if b == hash_sign && place.spaced then Some (place, drop (prefix_len (λ c. not (c == line_feed)) bs) bs)
     else None

@@ -1,3 +1,4 @@
+pub mod Signs
 pub mod Bytes
 pub mod Name
 pub mod Piece
@@ -21,6 +22,7 @@ pub mod Built
 pub mod Bad
 pub mod Rule
 pub mod Targets
+pub mod Placed
 pub mod Checks
 pub mod Fields
 pub mod Meaning

@@ -1,7 +1,7 @@
 -- The lines of a dkms.conf, after dkms(8), and the assignments that they make.
 use Rattle.std.specs.Prelude.{◌≡◌, ℕ, Bool, true, ◌&&◌, ◌||◌, List, [], ◌∷◌, ◌++◌, unwrap_or, ◌==◌, IsTrue, codes}
 use Rattle.std.specs.Str.{bytes_eq}
-use Rattle.kb_conf.specs.declared.bytes.TheConstants.{LINE_FEED, HASH, SEMICOLON, EQUALS}
+use Rattle.kb_conf.specs.Signs.{line_feed, hash_sign, semicolon, equals_sign}
 use Rattle.kb_conf.specs.declared.place.Place.{Place}
 use Rattle.kb_conf.specs.Bytes.{is_blank}
 use Rattle.kb_conf.specs.Name.{Reference, is_reference, spell_reference}
@@ -11,29 +11,29 @@ use Rattle.kb_conf.specs.Value.{Scope, scope, at_start, spell_pieces, give_all, 
 use Rattle.kb_conf.specs.Place.{may_set, may_part, after_blank, after_semicolon, after_assignment, line_start}
 
 -- NAME=VALUE or NAME[N]=VALUE
-pub record Item : Type 0 where
+pub record AssignmentItem : Type 0 where
   pub target : Reference
   pub pieces : List Piece
 
-abbrev pub spell_item : Item → List ℕ
-spell_item i = spell_reference i.target ++ (EQUALS ∷ spell_pieces i.pieces)
+abbrev pub spell_item : AssignmentItem → List ℕ
+spell_item i = spell_reference i.target ++ (equals_sign ∷ spell_pieces i.pieces)
 
 -- the names whose values are commands
 abbrev pub is_command : List ℕ → Bool
 is_command name = bytes_eq name (codes "MAKE") || bytes_eq name (codes "CLEAN")
 
-abbrev pub item_mode : Item → Mode
+abbrev pub item_mode : AssignmentItem → Mode
 item_mode i = at_start (is_command i.target.name)
 
-abbrev pub item_value : Scope → Item → List ℕ
+abbrev pub item_value : Scope → AssignmentItem → List ℕ
 item_value s i = give_all s (item_mode i) i.pieces
 
-abbrev pub is_item : Scope → Item → List ℕ → Bool
+abbrev pub is_item : Scope → AssignmentItem → List ℕ → Bool
 is_item s i after =
     is_reference i.target && (are_value (item_mode i) i.pieces after && is_short (item_value s i))
 
 -- NAME means NAME[0]
-abbrev pub assigned : Scope → Item → Assignment
+abbrev pub assigned : Scope → AssignmentItem → Assignment
 assigned s i =
     record { name = i.target.name; number = unwrap_or i.target.number 0; value = item_value s i }
 
@@ -42,25 +42,25 @@ pub data Token : Type 0 where
   Semicolon : Token
   LineEnd : Token
   Comment : List ℕ → Token
-  Set : Item → Token
+  Set : AssignmentItem → Token
 
 abbrev pub spell_token : Token → List ℕ
 spell_token (Blank b) = b ∷ []
-spell_token Semicolon = SEMICOLON ∷ []
-spell_token LineEnd = LINE_FEED ∷ []
-spell_token (Comment text) = HASH ∷ text
+spell_token Semicolon = semicolon ∷ []
+spell_token LineEnd = line_feed ∷ []
+spell_token (Comment text) = hash_sign ∷ text
 spell_token (Set i) = spell_item i
 
 -- the end of the text ends a line too
 abbrev pub ends_line : List ℕ → Bool
 ends_line [] = true
-ends_line (b ∷ bs) = b == LINE_FEED
+ends_line (b ∷ bs) = b == line_feed
 
 abbrev pub is_token : Scope → Token → List ℕ → Bool
 is_token s (Blank b) after = is_blank b
 is_token s Semicolon after = true
 is_token s LineEnd after = true
-is_token s (Comment text) after = lacks LINE_FEED text && ends_line after
+is_token s (Comment text) after = lacks line_feed text && ends_line after
 is_token s (Set i) after = is_item s i after
 
 abbrev pub may_stand : Place → Token → Bool
@@ -111,7 +111,7 @@ pub record IsStep (s : Scope) (place : Place) (text : List ℕ) (step : Step) : 
   pub assignments : step.assigned ≡ assigns s token
 
 pub record IsAssignment (s : Scope) (text : List ℕ) (a : Assignment) (after : List ℕ) : Type 0 where
-  pub item : Item
+  pub item : AssignmentItem
   pub spelled : text ≡ spell_item item ++ after
   pub whole : IsTrue (is_item s item after)
   pub made : a ≡ assigned s item

@@ -3,6 +3,7 @@ use Rattle.std.specs.Prelude.{◌≡◌, ℕ, Bool, ◌&&◌, List, Option, Some
 use Rattle.std.specs.Option.{ForSome, option_or}
 use Rattle.kb_world.specs.Path.{Path, child}
 use Rattle.kb_world.specs.Tree.{Tree, node_at, is_dir, is_file, file_bytes}
+use Rattle.kb_world.specs.Read.{unless_due}
 use Rattle.kb_world.specs.State.{State, HasCause, RanNone}
 use Rattle.kb_world.specs.declared.job.Key.{Key}
 use Rattle.kb_world.specs.declared.refusal.Refusal.{Refusal}
@@ -13,8 +14,8 @@ use Rattle.kb_conf.specs.declared.conf.Conf.{Conf}
 use Rattle.kb_conf.specs.Assignment.{Given}
 use Rattle.kb_conf.specs.Conf.{conf_of}
 
-abbrev pub conf_path : Path → Path
-conf_path dir = child dir (codes "dkms.conf")
+abbrev pub conf_below : Path → Path
+conf_below dir = child dir (codes "dkms.conf")
 
 abbrev pub bytes_at : Path → Tree → List ℕ
 bytes_at path tree = unwrap_or (file_bytes (node_at tree path)) (codes "")
@@ -40,14 +41,10 @@ matched None said = said
 matched (Some asked) (Ok conf) = cond (is_key_of asked conf.key) (Ok conf) (Err (refusal.ConfMismatch conf.key))
 matched (Some asked) (Err due) = Err due
 
-abbrev pub after : Option Refusal → Result Conf Refusal → Result Conf Refusal
-after None said = said
-after (Some due) said = Err due
-
 -- the conf that stands in the directory, or the first refusal
 unfoldable pub loaded_conf : Path → Option Key → Given → Tree → Result Conf Refusal
 loaded_conf dir key given tree =
-    after (no_source dir (conf_path dir) tree) (matched key (conf_of (bytes_at (conf_path dir) tree) given))
+    unless_due (no_source dir (conf_below dir) tree) (matched key (conf_of (bytes_at (conf_below dir) tree) given))
 
 -- The call changes nothing, is never refused, and gives what the file at the path holds.
 pub record GivesFile (path : Path) (old new : State) (result : Result (List ℕ) Stop) : Type 0 where

@@ -1,6 +1,6 @@
 -- What a text says, computed. The grammar doesn't cite this: a law says that it is what the grammar says.
 use Rattle.std.specs.Prelude.{ℕ, zero, suc, ◌+◌, Bool, not, ◌&&◌, List, [], ◌∷◌, ◌++◌, Option, Some, None, option_map, option_and_then, Result, Ok, Err, length, nat_le, unwrap_or, if◌then◌else◌}
-use Rattle.kb_conf.specs.declared.bytes.TheConstants.{EQUALS}
+use Rattle.kb_conf.specs.Signs.{equals_sign}
 use Rattle.kb_conf.specs.declared.place.Place.{Place}
 use Rattle.kb_conf.specs.Assignment.{Assignment, Given}
 use Rattle.kb_conf.specs.Front.{piece_at, byte_at, reference_at, plain_at}
@@ -8,7 +8,7 @@ use Rattle.kb_conf.specs.Line.{Step, is_command}
 use Rattle.kb_conf.specs.Name.{Reference}
 use Rattle.kb_conf.specs.Piece.{Piece, Mode, mode_after}
 use Rattle.kb_conf.specs.Place.{line_start, may_set, after_assignment}
-use Rattle.kb_conf.specs.Reading.{sound_len, line_of, IsGood, IsBadLine}
+use Rattle.kb_conf.specs.Reading.{sound_len, line_number, IsGood, IsBadLine}
 use Rattle.kb_conf.specs.Value.{Scope, scope, at_start, gives, ends_item, is_short}
 
 -- a value, and what follows it
@@ -38,7 +38,7 @@ assignment_from s r (Some behind) = made_from r (value_from s (length behind + 1
 
 abbrev pub assignment_past : Scope → Option (Reference × List ℕ) → Option (Assignment × List ℕ)
 assignment_past s None = None
-assignment_past s (Some found) = assignment_from s found.0 (byte_at EQUALS found.1)
+assignment_past s (Some found) = assignment_from s found.0 (byte_at equals_sign found.1)
 
 -- the assignment at the front, and what follows it
 unfoldable pub assignment_at : Scope → List ℕ → Option (Assignment × List ℕ)
@@ -61,10 +61,10 @@ Said = Result (List Assignment) ℕ
 
 -- what the item at the front adds, and where to go on
 unfoldable pub said_past : List ℕ → List Assignment → List ℕ → (List Assignment → Place → List ℕ → Said) → Option Step → Said
-said_past text earlier rest go None = Err (line_of text rest)
+said_past text earlier rest go None = Err (line_number text rest)
 said_past text earlier rest go (Some step) =
     if nat_le (length text) (sound_len text + length step.rest) then go (earlier ++ step.assigned) step.place step.rest
-    else Err (line_of text rest)
+    else Err (line_number text rest)
 
 -- what the rest of the text says behind these assignments. The number bounds the items
 unfoldable pub said_from : Given → List ℕ → ℕ → List Assignment → Place → List ℕ → Said

@@ -6,11 +6,11 @@ use Rattle.kb_world.specs.Names.{is_word}
 use Rattle.kb_conf.specs.Values.{is_given}
 
 -- a path value is split at `/`; empty parts and `.` are dropped
-abbrev pub is_part : List ℕ → Bool
-is_part part = is_given part && not (bytes_eq part (codes "."))
+abbrev pub is_path_part : List ℕ → Bool
+is_path_part part = is_given part && not (bytes_eq part (codes "."))
 
-unfoldable pub parts_of : List ℕ → List (List ℕ)
-parts_of value = filter is_part (slice_split (λ c. c == byte "/") value)
+unfoldable pub path_parts : List ℕ → List (List ℕ)
+path_parts value = filter is_path_part (slice_split (λ c. c == byte "/") value)
 
 -- no word is `..`
 unfoldable pub is_step : List ℕ → Bool
@@ -20,7 +20,7 @@ unfoldable pub are_words : List (List ℕ) → Bool
 are_words parts = list_all is_step parts
 
 unfoldable pub is_path : List ℕ → Bool
-is_path value = are_words (parts_of value)
+is_path value = are_words (path_parts value)
 
 abbrev pub begins_with_slash : List ℕ → Bool
 begins_with_slash [] = false
@@ -36,4 +36,4 @@ begins_at_top (first ∷ rest) = is_top first
 
 -- `/kernel`, `/updates` or `/extra`, or a path below one
 unfoldable pub is_destination : List ℕ → Bool
-is_destination value = begins_with_slash value && begins_at_top (parts_of value) && are_words (parts_of value)
+is_destination value = begins_with_slash value && begins_at_top (path_parts value) && are_words (path_parts value)

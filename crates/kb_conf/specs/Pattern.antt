@@ -4,7 +4,7 @@ use Rattle.std.specs.List.{list_any}
 use Rattle.std.specs.Option.{option_map_or}
 use Rattle.regex_syntax.specs.Grammar.{read}
 use Rattle.regex.specs.Patterns.{Re, find_str, default_config}
-use Rattle.kb_conf.specs.declared.bytes.TheConstants.{OPEN_BRACE}
+use Rattle.kb_conf.specs.Signs.{open_brace}
 
 -- the pattern that the grammar of `regex` reads in the text, unless it is nested deeper than its limit
 unfoldable pub pattern_in : List ℕ → Option Re
@@ -14,7 +14,7 @@ pattern_in text = option_and_then
 
 -- at most 256 bytes, no `{`, and a pattern
 unfoldable pub is_pattern : List ℕ → Bool
-is_pattern text = nat_le (length text) 256 && not (list_any (λ c. c == OPEN_BRACE) text) && is_some (pattern_in text)
+is_pattern text = nat_le (length text) 256 && not (list_any (λ c. c == open_brace) text) && is_some (pattern_in text)
 
 -- the pattern is found anywhere in the text
 unfoldable pub matches : List ℕ → List ℕ → Bool

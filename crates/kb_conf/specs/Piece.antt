@@ -2,9 +2,9 @@
 -- and where it may stand.
 use Rattle.std.specs.Prelude.{ℕ, ◌+◌, ◌-◌, Bool, true, not, ◌&&◌, List, [], ◌∷◌, ◌++◌, ◌==◌, if◌then◌else◌}
 use Rattle.std.specs.List.{list_all}
-use Rattle.kb_conf.specs.declared.bytes.TheConstants.{QUOTE, DOLLAR, APOSTROPHE, OPEN_PARENTHESIS, CLOSE_PARENTHESIS, BACKSLASH, BACKQUOTE, OPEN_BRACE, CLOSE_BRACE}
+use Rattle.kb_conf.specs.Signs.{double_quote, dollar_sign, apostrophe, open_parenthesis, close_parenthesis, backslash, backquote, open_brace, close_brace}
 use Rattle.kb_conf.specs.Bytes.{stands_for_itself, continues_name, begins_expansion}
-use Rattle.kb_conf.specs.Name.{Reference, is_name, is_reference, spell_reference}
+use Rattle.kb_conf.specs.Name.{Reference, is_variable_name, is_reference, spell_reference}
 
 pub data Piece : Type 0 where
   -- a byte that stands for itself
@@ -28,14 +28,14 @@ pub data Piece : Type 0 where
 
 abbrev pub spell : Piece → List ℕ
 spell (Bare b) = b ∷ []
-spell (Escaped b) = BACKSLASH ∷ b ∷ []
-spell (Single text) = APOSTROPHE ∷ (text ++ APOSTROPHE ∷ [])
-spell Quote = QUOTE ∷ []
-spell (Plain name) = DOLLAR ∷ name
-spell (Braced r) = DOLLAR ∷ OPEN_BRACE ∷ (spell_reference r ++ CLOSE_BRACE ∷ [])
-spell (Command text) = DOLLAR ∷ OPEN_PARENTHESIS ∷ (text ++ CLOSE_PARENTHESIS ∷ [])
-spell (Backquoted text) = BACKQUOTE ∷ (text ++ BACKQUOTE ∷ [])
-spell Dollar = DOLLAR ∷ []
+spell (Escaped b) = backslash ∷ b ∷ []
+spell (Single text) = apostrophe ∷ (text ++ apostrophe ∷ [])
+spell Quote = double_quote ∷ []
+spell (Plain name) = dollar_sign ∷ name
+spell (Braced r) = dollar_sign ∷ open_brace ∷ (spell_reference r ++ close_brace ∷ [])
+spell (Command text) = dollar_sign ∷ open_parenthesis ∷ (text ++ close_parenthesis ∷ [])
+spell (Backquoted text) = backquote ∷ (text ++ backquote ∷ [])
+spell Dollar = dollar_sign ∷ []
 
 -- no byte of the text is this one
 abbrev pub lacks : ℕ → List ℕ → Bool
@@ -44,15 +44,15 @@ lacks b text = list_all (λ c. not (c == b)) text
 -- how many parentheses are open behind a byte
 abbrev pub depth_after : ℕ → ℕ → ℕ
 depth_after depth b =
-    if b == OPEN_PARENTHESIS then depth + 1
-    else if b == CLOSE_PARENTHESIS then depth - 1
+    if b == open_parenthesis then depth + 1
+    else if b == close_parenthesis then depth - 1
     else depth
 
 -- with so many parentheses open, the text closes them all and each that it opens, and no other
 abbrev pub closes : ℕ → List ℕ → Bool
 closes depth [] = depth == 0
 closes depth (b ∷ bs) =
-    not (b == CLOSE_PARENTHESIS && depth == 0) && closes (depth_after depth b) bs
+    not (b == close_parenthesis && depth == 0) && closes (depth_after depth b) bs
 
 -- a name behind $ is as long as the text allows
 abbrev pub ends_name : List ℕ → Bool
@@ -69,16 +69,16 @@ pub record Mode : Type 0 where
   pub command : Bool
 
 -- the piece may stand here, before what follows it
-abbrev pub fits : Mode → Piece → List ℕ → Bool
-fits m (Bare b) after = stands_for_itself m.quoted b
-fits m (Escaped b) after = true
-fits m (Single text) after = not m.quoted && lacks APOSTROPHE text
-fits m Quote after = true
-fits m (Plain name) after = is_name name && ends_name after
-fits m (Braced r) after = is_reference r
-fits m (Command text) after = m.command && closes 0 text
-fits m (Backquoted text) after = m.command && lacks BACKQUOTE text
-fits m Dollar after = ends_dollar after
+abbrev pub fits_here : Mode → Piece → List ℕ → Bool
+fits_here m (Bare b) after = stands_for_itself m.quoted b
+fits_here m (Escaped b) after = true
+fits_here m (Single text) after = not m.quoted && lacks apostrophe text
+fits_here m Quote after = true
+fits_here m (Plain name) after = is_variable_name name && ends_name after
+fits_here m (Braced r) after = is_reference r
+fits_here m (Command text) after = m.command && closes 0 text
+fits_here m (Backquoted text) after = m.command && lacks backquote text
+fits_here m Dollar after = ends_dollar after
 
 -- a double quote flips whether what follows is quoted
 abbrev pub mode_after : Mode → Piece → Mode

@@ -7,7 +7,7 @@ use Rattle.std.specs.Str.{byte}
 use Rattle.kb_world.specs.Path.{is_under}
 use Rattle.kb_conf.specs.declared.conf.Target.{Target}
 use Rattle.kb_conf.specs.Values.{Values, value_of, is_given, or_else, numbers_of}
-use Rattle.kb_conf.specs.PathValue.{parts_of}
+use Rattle.kb_conf.specs.PathValue.{path_parts}
 use Rattle.kb_conf.specs.Rule.{keeps}
 use Rattle.kb_conf.specs.declared.rule.Rule.TheVariants.{Word, Location, Destination}
 use Rattle.kb_conf.specs.Bad.{bad_unless}
@@ -45,23 +45,25 @@ abbrev pub target_at : Values → ℕ → Target
 target_at values i = record {
   index = i;
   built = built_name values i;
-  location = parts_of (built_location values i);
+  location = path_parts (built_location values i);
   dest = dest_name values i;
-  dest_location = parts_of (dest_location values i);
+  dest_location = path_parts (dest_location values i);
   strip = strips values i;
 }
 
 -- where the target stands below the kernel's module directory
-abbrev pub place_of : Values → ℕ → List (List ℕ)
-place_of values i = parts_of (dest_location values i) ++ (dest_name values i ++ codes ".ko") ∷ []
+abbrev pub target_place : Values → ℕ → List (List ℕ)
+target_place values i = path_parts (dest_location values i) ++ (dest_name values i ++ codes ".ko") ∷ []
 
 abbrev pub same_name : Values → ℕ → ℕ → Bool
 same_name values i j = bytes_eq (dest_name values j) (dest_name values i)
 
 -- one of the two places is at or above the other
-abbrev pub in_the_way : Values → ℕ → ℕ → Bool
-in_the_way values i j =
-    is_under (place_of values i) (place_of values j) || is_under (place_of values j) (place_of values i)
+abbrev pub collide : List (List ℕ) → List (List ℕ) → Bool
+collide place other = is_under place other || is_under other place
+
+abbrev pub collides : Values → ℕ → ℕ → Bool
+collides values i j = collide (target_place values i) (target_place values j)
 
 -- the first bad value of a target, behind those that stand before it
 abbrev pub bad_target : Values → List ℕ → ℕ → Option (List ℕ)
@@ -69,7 +71,7 @@ bad_target values earlier i =
     option_or (bad_unless (keeps Word (built_name values i)) (codes "BUILT_MODULE_NAME") i)
     (option_or (bad_unless (keeps Location (built_location values i)) (codes "BUILT_MODULE_LOCATION") i)
     (option_or (bad_unless (keeps Word (dest_name values i) && not (list_any (same_name values i) earlier)) (codes "DEST_MODULE_NAME") i)
-    (bad_unless (keeps Destination (dest_location values i) && not (list_any (in_the_way values i) earlier)) (codes "DEST_MODULE_LOCATION") i)))
+    (bad_unless (keeps Destination (dest_location values i) && not (list_any (collides values i) earlier)) (codes "DEST_MODULE_LOCATION") i)))
 
 unfoldable pub bad_targets : Values → List ℕ → List ℕ → Option (List ℕ)
 bad_targets values earlier [] = None

@@ -1,11 +1,10 @@
 -- What the pieces of a value give.
 use Rattle.std.specs.Prelude.{◌≡◌, IsTrue, ℕ, Bool, true, false, not, ◌&&◌, ◌||◌, List, [], ◌∷◌, ◌++◌, Option, None, unwrap_or, ◌==◌, if◌then◌else◌, nat_le, length}
 use Rattle.std.specs.Option.{option_or}
-use Rattle.kb_conf.specs.declared.bytes.TheConstants.{LINE_FEED, DOLLAR, BACKSLASH, SEMICOLON}
-use Rattle.kb_conf.specs.declared.value.TheConstants.{LONGEST_VALUE}
+use Rattle.kb_conf.specs.Signs.{line_feed, dollar_sign, backslash, semicolon}
 use Rattle.kb_conf.specs.Bytes.{is_active, is_blank}
 use Rattle.kb_conf.specs.Name.{Reference}
-use Rattle.kb_conf.specs.Piece.{Piece, Bare, Escaped, Single, Quote, Plain, Braced, Command, Backquoted, Dollar, Mode, spell, fits, mode_after}
+use Rattle.kb_conf.specs.Piece.{Piece, Bare, Escaped, Single, Quote, Plain, Braced, Command, Backquoted, Dollar, Mode, spell, fits_here, mode_after}
 use Rattle.kb_conf.specs.Assignment.{Given, Assignment, given_value, last_value}
 
 -- what stands before an assignment, by which its variables have values
@@ -32,8 +31,8 @@ expand s m r written = unwrap_or (look_up s r) (if m.command then written else [
 -- a backslash takes a line break away. Inside double quotes it stays before a byte that means nothing there
 abbrev pub escape : Bool → ℕ → List ℕ
 escape quoted b =
-    if b == LINE_FEED then []
-    else if quoted && not (is_active b) then BACKSLASH ∷ b ∷ []
+    if b == line_feed then []
+    else if quoted && not (is_active b) then backslash ∷ b ∷ []
     else b ∷ []
 
 abbrev pub gives : Scope → Mode → Piece → List ℕ
@@ -45,7 +44,7 @@ gives s m (Plain name) = expand s m (record { name = name; number = None }) (spe
 gives s m (Braced r) = expand s m r (spell (Braced r))
 gives s m (Command text) = spell (Command text)
 gives s m (Backquoted text) = spell (Backquoted text)
-gives s m Dollar = DOLLAR ∷ []
+gives s m Dollar = dollar_sign ∷ []
 
 abbrev pub spell_pieces : List Piece → List ℕ
 spell_pieces [] = []
@@ -58,17 +57,20 @@ give_all s m (p ∷ ps) = gives s m p ++ give_all s (mode_after m p) ps
 -- an assignment is whole where a blank, a ;, a line's end or the text's end follows
 abbrev pub ends_item : List ℕ → Bool
 ends_item [] = true
-ends_item (b ∷ bs) = is_blank b || b == SEMICOLON || b == LINE_FEED
+ends_item (b ∷ bs) = is_blank b || b == semicolon || b == line_feed
 
 -- each piece may stand where it stands, and the value ends outside double quotes
 abbrev pub are_value : Mode → List Piece → List ℕ → Bool
 are_value m [] after = not m.quoted && ends_item after
 are_value m (p ∷ ps) after =
-    fits m p (spell_pieces ps ++ after) && are_value (mode_after m p) ps after
+    fits_here m p (spell_pieces ps ++ after) && are_value (mode_after m p) ps after
 
--- at most 65,536 bytes
+-- the most bytes that a value may have; this project's own
+abbrev pub longest_value : ℕ
+longest_value = 65536
+
 abbrev pub is_short : List ℕ → Bool
-is_short value = nat_le (length value) LONGEST_VALUE
+is_short value = nat_le (length value) longest_value
 
 -- the grammar cuts the text up to what is after into the pieces of a value, which give it
 pub record ReadsValue (s : Scope) (m : Mode) (text value after : List ℕ) : Type 0 where

@@ -249,8 +249,8 @@ fn unused_of(alloc: Global, values: &Values<'_>) -> Result<Texts, AllocError>
     Ok(unused)
 }
 
-fn key_of(alloc: Global, values: &Values<'_>) -> Result<Key, AllocError>
-    ensures { IfOk result (λ key. key ≡ rule.key_of values.now) }
+fn package_key(alloc: Global, values: &Values<'_>) -> Result<Key, AllocError>
+    ensures { IfOk result (λ key. key ≡ rule.package_key values.now) }
 {
     Ok(Key {
         module: Text::of(alloc, values.value("PACKAGE_NAME", 0))?,
@@ -265,7 +265,7 @@ pub fn fields_of(alloc: Global, given: &Given, values: &Values<'_>) -> Result<Co
 {
     let numbers = target_numbers(alloc, values)?;
     Ok(Conf {
-        key: key_of(alloc, values)?,
+        key: package_key(alloc, values)?,
         targets: targets_at(alloc, values, &numbers)?,
         patches: patches_of(alloc, given, values)?,
         make: make_of(alloc, given, values)?,

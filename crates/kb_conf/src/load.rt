@@ -1,5 +1,5 @@
 //! Reading the conf of a source directory.
-ghost use Rattle.std.specs.Prelude.{◌≡◌, ◌≤◌, IfOk, IsTrue, Ok, length};
+ghost use Rattle.std.specs.Prelude.{◌≡◌, ◌≤◌, IsTrue, Ok, length};
 ghost use Rattle.std.specs.Option.{ForSome, option_copied};
 ghost use Rattle.kb_conf.specs.Conf.{conf_of};
 ghost use Rattle.kb_conf.specs.Load as rule;
@@ -12,7 +12,7 @@ use super::conf::Conf;
 use super::given::Given;
 use super::read::{LONGEST_CONF, read_conf};
 use kb_world::{Bytes, Key, Kind, Path, Refusal, Stop, World};
-use std::alloc::{AllocError, Global};
+use std::alloc::Global;
 
 // Refused where the path isn't a directory.
 fn require_directory<W: World>(alloc: Global, world: &mut W, dir: &Path) -> Result<(), Stop>
@@ -68,15 +68,6 @@ fn is_key_of(asked: &Key, key: &Key) -> bool
     key.module.as_str() == asked.module.as_str() && key.version.as_str() == asked.version.as_str()
 }
 
-fn copy_of(key: &Key) -> Result<Key, AllocError>
-    ensures { IfOk result (λ made. made ≡ key.now) }
-{
-    Ok(Key {
-        module: key.module.clone()?,
-        version: key.version.clone()?,
-    })
-}
-
 // Refused where the conf is of another package than the one asked for.
 fn require_match(conf: Conf, asked: Option<&Key>) -> Result<Conf, Stop>
     ensures { IsRead result (rule.matched (option_copied asked.entry) (Ok conf)) }
@@ -87,7 +78,7 @@ fn require_match(conf: Conf, asked: Option<&Key>) -> Result<Conf, Stop>
                 Ok(conf)
             } else {
                 Err(Stop::Refused(Refusal::ConfMismatch {
-                    key: copy_of(&conf.key)?,
+                    key: conf.key.clone()?,
                 }))
             }
         }
@@ -105,10 +96,7 @@ pub(crate) fn read_for(
     requires { length bytes.now ≤ 65_536 }
     ensures { IsRead result (rule.matched (option_copied asked.entry) (conf_of bytes.now given.now)) }
 {
-    match read_conf(alloc, bytes, given) {
-        Ok(conf) => require_match(conf, asked),
-        Err(stop) => Err(stop),
-    }
+    require_match(read_conf(alloc, bytes, given)?, asked)
 }
 
 /// The conf of the source directory. Refused where the directory or its regular `dkms.conf` isn't there, where that
@@ -125,14 +113,8 @@ pub fn load_conf<W: World>(
         (W.state world.new) result }
 {
     let path = dir.child(alloc, "dkms.conf")?;
-    match require_source(alloc, world, dir, &path) {
-        Ok(()) => {}
-        Err(stop) => return Err(stop),
-    }
-    let bytes = match read_file(alloc, world, &path) {
-        Ok(bytes) => bytes,
-        Err(stop) => return Err(stop),
-    };
+    require_source(alloc, world, dir, &path)?;
+    let bytes = read_file(alloc, world, &path)?;
     // A world that doesn't tell its tree may hold another file by now.
     if bytes.as_slice().len() > LONGEST_CONF {
         return Err(Stop::Refused(Refusal::TooLarge { path }));

@@ -1,6 +1,6 @@
 //! Names of assignments and variables.
 ghost use Rattle.std.specs.Prelude.{◌≡◌, ◌-◌, ◌<◌};
-ghost use Rattle.kb_conf.specs.Front.{name_at, below_256, number_of, number_at, bracketed_at, subscript_at, reference_at};
+ghost use Rattle.kb_conf.specs.Front.{name_at, below_256, number_written, number_at, bracketed_at, subscript_at, reference_at};
 ghost use Rattle.kb_conf.specs.Views.{split_view, number_view, subscript_view, reference_view};
 
 use super::bytes::{CLOSE_BRACKET, OPEN_BRACKET, ZERO, starts_name};
@@ -42,7 +42,7 @@ fn below_256(number: u16) -> Option<u8>
 
 /// The number from 0 to 255 that these digits write without leading zeros.
 fn number_from_digits(digits: &[u8]) -> Option<u8>
-    ensures { result ≡ number_of digits.now }
+    ensures { result ≡ number_written digits.now }
 {
     match digits {
         [a] => below_256(digit(*a)),

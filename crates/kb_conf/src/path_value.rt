@@ -8,8 +8,8 @@ use super::values::is_given;
 use kb_world::{Text, Texts, is_word};
 use std::alloc::{AllocError, Global};
 
-fn is_part(part: &str) -> bool
-    ensures { result ≡ rule.is_part part.now }
+fn is_path_part(part: &str) -> bool
+    ensures { result ≡ rule.is_path_part part.now }
 {
     is_given(part) && part != "."
 }
@@ -22,13 +22,13 @@ fn pieces_of(alloc: Global, value: &str) -> Result<Vec<&str>, AllocError>
 }
 
 /// The parts of a path value: what stands between its `/`s, without empty parts and `.`.
-#[tactic(auto, unfolding(crate::specs::PathValue::parts_of))]
-pub fn parts_of(alloc: Global, value: &str) -> Result<Vec<&str>, AllocError>
-    ensures { IfOk result (λ parts. map (λ part. part.now) parts.items ≡ rule.parts_of value.now) }
+#[tactic(auto, unfolding(crate::specs::PathValue::path_parts))]
+pub fn path_parts(alloc: Global, value: &str) -> Result<Vec<&str>, AllocError>
+    ensures { IfOk result (λ parts. map (λ part. part.now) parts.items ≡ rule.path_parts value.now) }
 {
     let mut parts = Vec::new(alloc);
     for piece in &pieces_of(alloc, value)? {
-        if is_part(piece) {
+        if is_path_part(piece) {
             parts.push(*piece)?;
         }
     }
@@ -88,7 +88,7 @@ fn begins_with_slash(value: &str) -> bool
 pub fn is_path(alloc: Global, value: &str) -> Result<bool, AllocError>
     ensures { IfOk result (λ good. good ≡ rule.is_path value.now) }
 {
-    let parts = parts_of(alloc, value)?;
+    let parts = path_parts(alloc, value)?;
     Ok(are_words(&parts))
 }
 
@@ -97,6 +97,6 @@ pub fn is_path(alloc: Global, value: &str) -> Result<bool, AllocError>
 pub fn is_destination(alloc: Global, value: &str) -> Result<bool, AllocError>
     ensures { IfOk result (λ good. good ≡ rule.is_destination value.now) }
 {
-    let parts = parts_of(alloc, value)?;
+    let parts = path_parts(alloc, value)?;
     Ok(begins_with_slash(value) && begins_at_top(&parts) && are_words(&parts))
 }

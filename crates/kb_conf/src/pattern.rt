@@ -3,7 +3,7 @@ ghost use Rattle.std.specs.Prelude.{◌≡◌, ◌==◌, IfOk, MatchOption, None
 ghost use Rattle.std.specs.List.{list_any};
 ghost use Rattle.kb_conf.specs.Built.{IsBuilt};
 ghost use Rattle.kb_conf.specs.Pattern as rule;
-ghost use Rattle.kb_conf.specs.declared.bytes.TheConstants.{OPEN_BRACE};
+ghost use Rattle.kb_conf.specs.Signs.{open_brace};
 
 use super::bytes::OPEN_BRACE;
 use regex::{Error, Regex};
@@ -13,7 +13,7 @@ use std::alloc::{AllocError, Global};
 const LONGEST_PATTERN: usize = 256;
 
 fn has_brace(text: &str) -> bool
-    ensures { result ≡ list_any (λ c. c == OPEN_BRACE) text.now }
+    ensures { result ≡ list_any (λ c. c == open_brace) text.now }
 {
     text.as_bytes().iter().any(|byte| *byte == OPEN_BRACE)
 }

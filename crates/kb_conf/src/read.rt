@@ -1,6 +1,7 @@
 //! Reading a conf.
 ghost use Rattle.std.specs.Prelude.{◌≤◌, length};
 ghost use Rattle.kb_conf.specs.Conf as rule;
+ghost use Rattle.kb_conf.specs.Conf.{ReadsConf};
 ghost use Rattle.kb_conf.specs.Meaning.{meaning_of};
 ghost use Rattle.kb_world.specs.Read.{IsRead};
 ghost use Rattle.kb_conf.specs.TextOf.{IsTextGiven};
@@ -53,7 +54,8 @@ fn conf_from(alloc: Global, given: &Given, values: &Values<'_>) -> Result<Conf, 
 /// have a value and has none, else for the first bad value.
 pub fn read_conf(alloc: Global, text: &[u8], given: &Given) -> Result<Conf, Stop>
     requires { length text.now ≤ 65_536 }
-    ensures { IsRead result (rule.conf_of text.now given.now) }
+    ensures value { IsRead result (rule.conf_of text.now given.now) }
+    ensures grammar { ReadsConf given.now text.now result }
 {
     let text = without_returns(alloc, text)?;
     let values = read_values(alloc, &text, given)?;

@@ -2,8 +2,8 @@
 ghost use Rattle.std.specs.Prelude.{◌≡◌, ◌≤◌, ◌==◌, length, count_by, IfOk, IfErr};
 ghost use Rattle.std.specs.Str.Lossy.{utf8_valid_len};
 ghost use Rattle.kb_conf.specs.Refusal.{AtBadLine};
-ghost use Rattle.kb_conf.specs.Reading.{drop_returns, starts_line_end, sound_len, line_of, IsGood, IsBadLine};
-ghost use Rattle.kb_conf.specs.declared.bytes.TheConstants.{LINE_FEED};
+ghost use Rattle.kb_conf.specs.Reading.{drop_returns, starts_line_end, sound_len, line_number, IsGood, IsBadLine};
+ghost use Rattle.kb_conf.specs.Signs.{line_feed};
 
 use super::bytes::{CARRIAGE_RETURN, LINE_FEED, NUL};
 use super::given::Given;
@@ -75,7 +75,7 @@ fn sound_len(text: &[u8]) -> usize
 
 /// How many line feeds a text has.
 fn count_lines(text: &[u8]) -> usize
-    ensures value { result ≡ count_by (λ b. b == LINE_FEED) text.now }
+    ensures value { result ≡ count_by (λ b. b == line_feed) text.now }
     ensures bound { result ≤ length text.now }
 {
     text.iter().filter(|byte| **byte == LINE_FEED).count()
@@ -84,7 +84,7 @@ fn count_lines(text: &[u8]) -> usize
 /// The refusal of the line on which the rest of the text begins.
 fn bad_line(text: &[u8], rest: &[u8]) -> ReadError
     requires { length rest.now ≤ length text.now }
-    ensures { result ≡ ReadError.BadLine (line_of text.now rest.now) }
+    ensures { result ≡ ReadError.BadLine (line_number text.now rest.now) }
 {
     let (before, _) = text.split_at(text.len() - rest.len());
     ReadError::BadLine(1 + count_lines(before) as u64)

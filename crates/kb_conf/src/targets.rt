@@ -1,14 +1,17 @@
 //! The targets of a conf.
-ghost use Rattle.std.specs.Prelude.{◌≡◌, ◌+◌, IfOk, map, [], ◌∷◌};
+ghost use Rattle.std.specs.Prelude.{◌≡◌, IfOk, map, [], slice_get};
 ghost use Rattle.std.specs.List.{list_any};
 ghost use Rattle.std.specs.Str.{byte};
-ghost use Rattle.kb_conf.specs.PathValue.{parts_of};
+ghost use Rattle.kb_conf.specs.PathValue.{path_parts};
+ghost use Rattle.kb_conf.specs.Placed.{number_in, IsPlaced, ArePlaced, is_named};
 ghost use Rattle.kb_conf.specs.Targets as rule;
+ghost use Rattle.kb_world.specs.Path.{is_under};
+ghost use Rattle.kb_conf.specs.declared.targets.Placed.{Placed};
 ghost use Rattle.kb_conf.specs.Values.{or_else};
 
 use super::bad::bad_unless;
 use super::conf::{Target, Targets};
-use super::path_value::{parts_of, texts_of};
+use super::path_value::{path_parts, texts_of};
 use super::rule::{Rule, keeps};
 use super::values::{Values, is_given};
 use kb_world::{Text, Texts};
@@ -82,15 +85,15 @@ fn strips(values: &Values<'_>, number: u8) -> bool
 }
 
 fn parts_as_texts(alloc: Global, value: &str) -> Result<Texts, AllocError>
-    ensures { IfOk result (λ texts. texts ≡ parts_of value.now) }
+    ensures { IfOk result (λ texts. texts ≡ path_parts value.now) }
 {
-    let parts = parts_of(alloc, value)?;
+    let parts = path_parts(alloc, value)?;
     texts_of(alloc, &parts)
 }
 
 // Where the target is installed, below the kernel's module directory.
-fn place_of(alloc: Global, values: &Values<'_>, number: u8) -> Result<Texts, AllocError>
-    ensures { IfOk result (λ place. place ≡ rule.place_of values.now number) }
+fn target_place(alloc: Global, values: &Values<'_>, number: u8) -> Result<Texts, AllocError>
+    ensures { IfOk result (λ place. place ≡ rule.target_place values.now number) }
 {
     let mut place = parts_as_texts(alloc, dest_location(values, number))?;
     let mut file = Text::of(alloc, dest_name(values, number))?;
@@ -99,53 +102,87 @@ fn place_of(alloc: Global, values: &Values<'_>, number: u8) -> Result<Texts, All
     Ok(place)
 }
 
-fn is_in_the_way(
-    alloc: Global,
-    values: &Values<'_>,
+// A target with its place, which is made once: it may have thousands of names.
+#[derive(Drop)]
+struct Placed {
     number: u8,
-    other: u8,
-) -> Result<bool, AllocError>
-    ensures { IfOk result (λ found. found ≡ rule.in_the_way values.now number other) }
-{
-    let place = place_of(alloc, values, number)?;
-    let other = place_of(alloc, values, other)?;
-    Ok(
-        place.as_slice().starts_with(other.as_slice())
-            || other.as_slice().starts_with(place.as_slice()),
-    )
+    place: Texts,
 }
 
-fn is_any_in_the_way(
+fn placed_targets(
     alloc: Global,
     values: &Values<'_>,
-    number: u8,
-    earlier: &[u8],
-) -> Result<bool, AllocError>
-    ensures { IfOk result (λ found. found ≡ list_any (rule.in_the_way values.now number) earlier.now) }
+    numbers: &[u8],
+) -> Result<Vec<Placed>, AllocError>
+    ensures numbers { IfOk result (λ targets. map number_in targets.items ≡ numbers.now) }
+    ensures places { IfOk result (λ targets. ArePlaced values.now targets.items) }
 {
-    for other in earlier {
-        if is_in_the_way(alloc, values, number, *other)? {
-            return Ok(true);
-        }
+    let mut targets = Vec::new(alloc);
+    for number in numbers {
+        let place = target_place(alloc, values, *number)?;
+        targets.push(Placed {
+            number: *number,
+            place,
+        })?;
     }
-    Ok(false)
+    Ok(targets)
 }
 
-fn is_name_taken(values: &Values<'_>, number: u8, earlier: &[u8]) -> bool
-    ensures { result ≡ list_any (rule.same_name values.now number) earlier.now }
+// Whether this name stands at the index.
+fn has_name(place: &[Text], index: usize, name: &Text) -> bool
+    ensures { result ≡ is_named name.now (slice_get place.now index) }
 {
-    earlier.iter().any(|other| dest_name(values, *other) == dest_name(values, number))
+    match place.get(index) {
+        Some(other) => name == other,
+        None => false,
+    }
+}
+
+// Whether the place is the other or lies below it. The other's last name is compared first: it mostly decides.
+#[tactic(auto, using(crate::proofs::PlacedLaws::under_child))]
+fn is_below_or_at(place: &[Text], other: &[Text]) -> bool
+    ensures { result ≡ is_under place.now other.now }
+{
+    match other.split_last() {
+        Some((last, front)) => has_name(place, front.len(), last) && place.starts_with(front),
+        None => true,
+    }
+}
+
+fn collide(place: &[Text], other: &[Text]) -> bool
+    ensures { result ≡ rule.collide place.now other.now }
+{
+    is_below_or_at(place, other) || is_below_or_at(other, place)
+}
+
+fn is_place_taken(target: &Placed, earlier: &[Placed]) -> bool
+    ensures { result ≡ list_any (λ (other : Placed). rule.collide target.now.place other.place) earlier.now }
+{
+    earlier
+        .iter()
+        .any(|other| collide(target.place.as_slice(), other.place.as_slice()))
+}
+
+fn is_name_taken(values: &Values<'_>, target: &Placed, earlier: &[Placed]) -> bool
+    ensures { result ≡ list_any (λ (other : Placed). rule.same_name values.now target.now.number other.number) earlier.now }
+{
+    earlier
+        .iter()
+        .any(|other| dest_name(values, other.number) == dest_name(values, target.number))
 }
 
 // The first bad value of a target, behind the targets before it.
 fn bad_target(
     alloc: Global,
     values: &Values<'_>,
-    earlier: &[u8],
-    number: u8,
+    earlier: &[Placed],
+    target: &Placed,
 ) -> Result<Option<Text>, AllocError>
-    ensures { IfOk result (λ bad. bad ≡ rule.bad_target values.now earlier.now number) }
+    requires placed { IsPlaced values.now target.now }
+    requires earlier_placed { ArePlaced values.now earlier.now }
+    ensures { IfOk result (λ bad. bad ≡ rule.bad_target values.now (map number_in earlier.now) target.now.number) }
 {
+    let number = target.number;
     let good = keeps(alloc, Rule::Word, built_name(values, number))?;
     if let Some(bad) = bad_unless(alloc, good, "BUILT_MODULE_NAME", number)? {
         return Ok(Some(bad));
@@ -155,12 +192,12 @@ fn bad_target(
         return Ok(Some(bad));
     }
     let good = keeps(alloc, Rule::Word, dest_name(values, number))?
-        && !is_name_taken(values, number, earlier);
+        && !is_name_taken(values, target, earlier);
     if let Some(bad) = bad_unless(alloc, good, "DEST_MODULE_NAME", number)? {
         return Ok(Some(bad));
     }
     let good = keeps(alloc, Rule::Destination, dest_location(values, number))?
-        && !is_any_in_the_way(alloc, values, number, earlier)?;
+        && !is_place_taken(target, earlier);
     bad_unless(alloc, good, "DEST_MODULE_LOCATION", number)
 }
 
@@ -172,9 +209,10 @@ pub fn bad_targets(
 ) -> Result<Option<Text>, AllocError>
     ensures { IfOk result (λ bad. bad ≡ rule.bad_targets values.now [] numbers.now) }
 {
-    for (index, number) in numbers.iter().enumerate() {
-        let (earlier, _) = numbers.split_at(index);
-        if let Some(bad) = bad_target(alloc, values, earlier, *number)? {
+    let targets = placed_targets(alloc, values, numbers)?;
+    for (index, target) in targets.iter().enumerate() {
+        let (earlier, _) = targets.split_at(index);
+        if let Some(bad) = bad_target(alloc, values, earlier, target)? {
             return Ok(Some(bad));
         }
     }

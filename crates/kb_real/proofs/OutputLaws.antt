@@ -2,7 +2,7 @@
 use Rattle.std.proofs.Common.{◌≡◌, ℕ, zero, suc, ◌-◌, Bool, true, false, List, [], ◌∷◌, ◌++◌, length, take, Option, None, Some, refl, sym, ap, ◌∙◌, subst, append-nil, arith}
 use Rattle.std.proofs.KnownBytes.{Consumes-trans, Consumes-kept}
 use Rattle.std.specs.Io.KnownBytes.{Consumes}
-use Rattle.kb_real.specs.Pieces.{Gives}
+use Rattle.kb_real.specs.Pieces.{ReadsPiece}
 use Rattle.kb_real.specs.Outputs.{most_kept, IsReadTo, KeepsFront}
 
 -- the front of more is the front so far and what there is room for of the rest
@@ -14,10 +14,10 @@ front_more (suc most) (x ∷ read) piece =
     ap (λ n. take (suc most) (x ∷ read) ++ take n piece) room ∙ ap (λ rest. x ∷ rest) (front_more most read piece)
 
 -- the reader told its end
-pub told_end : (first old new : Option (List ℕ)) (kept buffer : List ℕ) (is_at_end : Bool) (given : Option ℕ) (count : ℕ) → Gives old new buffer given → given ≡ Some count → count ≡ 0
+pub told_end : (first old new : Option (List ℕ)) (kept buffer : List ℕ) (is_at_end : Bool) (given : Option ℕ) (count : ℕ) → ReadsPiece old new buffer given → given ≡ Some count → count ≡ 0
     → IsReadTo first old kept is_at_end → IsReadTo first new kept true
 told_end first old new kept buffer is_at_end given count step is none so_far =
-    let (within, gone, end) = subst (Gives old new buffer) is step in
+    let (within, gone, end) = subst (ReadsPiece old new buffer) is step in
     let nothing = ap (λ n. take n buffer) none in
     record {
       read = so_far.read;
@@ -27,10 +27,10 @@ told_end first old new kept buffer is_at_end given count step is none so_far =
     }
 
 -- it gave more
-pub more_kept : (first old new : Option (List ℕ)) (kept now buffer : List ℕ) (is_at_end : Bool) (given : Option ℕ) (count : ℕ) → Gives old new buffer given → given ≡ Some count → is_at_end ≡ false
+pub more_kept : (first old new : Option (List ℕ)) (kept now buffer : List ℕ) (is_at_end : Bool) (given : Option ℕ) (count : ℕ) → ReadsPiece old new buffer given → given ≡ Some count → is_at_end ≡ false
     → now ≡ kept ++ take (most_kept - length kept) (take count buffer) → IsReadTo first old kept is_at_end → IsReadTo first new now is_at_end
 more_kept first old new kept now buffer is_at_end given count step is before sum so_far =
-    let (within, gone, end) = subst (Gives old new buffer) is step in
+    let (within, gone, end) = subst (ReadsPiece old new buffer) is step in
     let piece = take count buffer in
     record {
       read = so_far.read ++ piece;
@@ -40,11 +40,11 @@ more_kept first old new kept now buffer is_at_end given count step is before sum
     }
 
 -- it was interrupted
-pub none_kept : (first old new : Option (List ℕ)) (kept buffer : List ℕ) (is_at_end : Bool) (given : Option ℕ) → Gives old new buffer given → given ≡ None → is_at_end ≡ false
+pub none_kept : (first old new : Option (List ℕ)) (kept buffer : List ℕ) (is_at_end : Bool) (given : Option ℕ) → ReadsPiece old new buffer given → given ≡ None → is_at_end ≡ false
     → IsReadTo first old kept is_at_end → IsReadTo first new kept is_at_end
 none_kept first old new kept buffer is_at_end given step is before so_far = record {
   read = so_far.read;
-  consumed = Consumes-kept first old new so_far.read so_far.consumed (subst (Gives old new buffer) is step);
+  consumed = Consumes-kept first old new so_far.read so_far.consumed (subst (ReadsPiece old new buffer) is step);
   front = so_far.front;
   end = λ told. cc;
 }

@@ -5,26 +5,26 @@ use Rattle.std.proofs.lemmas.List.{take_rest}
 use Rattle.std.proofs.KnownBytes.{Appends-trans, Consumes-trans, Consumes-kept}
 use Rattle.std.specs.Io.Iter.{u64_saturate}
 use Rattle.std.specs.Io.KnownBytes.{Appends, Consumes, WriteAppends}
-use Rattle.kb_real.specs.Pieces.{Gives}
+use Rattle.kb_real.specs.Pieces.{ReadsPiece}
 
 -- what one more read gave is counted too
 pub more_counted : (old mid new : Option (List ℕ)) (read buffer : List ℕ) (given : Option ℕ) (len count total : ℕ) → len ≡ u64_saturate (length read) → Consumes old mid read
-    → Gives mid new buffer given → given ≡ Some count → total ≡ min (len + count) (2 ^ 64 - 1)
+    → ReadsPiece mid new buffer given → given ≡ Some count → total ≡ min (len + count) (2 ^ 64 - 1)
     → (all : List ℕ) × (total ≡ u64_saturate (length all)) × Consumes old new all
 more_counted old mid new read buffer given len count total counted consumed step is sum =
-    let (within, gone, end) = subst (Gives mid new buffer) is step in
+    let (within, gone, end) = subst (ReadsPiece mid new buffer) is step in
     (read ++ take count buffer, omega (arith, length-append read (take count buffer), length-take count buffer, within, counted, sum), Consumes-trans _ _ _ _ _ consumed gone)
 
 -- what one more read gave is behind what was read before
 pub more_read : (old mid new : Option (List ℕ)) (read buffer all : List ℕ) (given : Option ℕ) (count : ℕ) → Consumes old mid read
-    → Gives mid new buffer given → given ≡ Some count → all ≡ read ++ take count buffer → Consumes old new all
+    → ReadsPiece mid new buffer given → given ≡ Some count → all ≡ read ++ take count buffer → Consumes old new all
 more_read old mid new read buffer all given count consumed step is sum =
-    let (within, gone, end) = subst (Gives mid new buffer) is step in subst (Consumes old new) (sym sum) (Consumes-trans _ _ _ _ _ consumed gone)
+    let (within, gone, end) = subst (ReadsPiece mid new buffer) is step in subst (Consumes old new) (sym sum) (Consumes-trans _ _ _ _ _ consumed gone)
 
 -- a read that was interrupted gave nothing
-pub none_read : (old mid new : Option (List ℕ)) (read buffer : List ℕ) (given : Option ℕ) → Consumes old mid read → Gives mid new buffer given → given ≡ None
+pub none_read : (old mid new : Option (List ℕ)) (read buffer : List ℕ) (given : Option ℕ) → Consumes old mid read → ReadsPiece mid new buffer given → given ≡ None
     → Consumes old new read
-none_read old mid new read buffer given consumed step is = Consumes-kept old mid new read consumed (subst (Gives mid new buffer) is step)
+none_read old mid new read buffer given consumed step is = Consumes-kept old mid new read consumed (subst (ReadsPiece mid new buffer) is step)
 
 -- what was written of a piece is a front of it
 pub front_written : (whole done rest : List ℕ) (old new : Option (List ℕ)) → whole ≡ done ++ rest → Appends old new done

@@ -10,7 +10,7 @@ use Rattle.kb_world.specs.SinkState.{Writes}
 use Rattle.kb_world.specs.declared.sink.SinkError.TheVariants as sink_error
 use Rattle.kb_world.specs.declared.world.WorldError.{WorldError}
 use Rattle.kb_world.specs.declared.world.WorldError.TheVariants.{Failed, NoMemory}
-use Rattle.kb_real.specs.Faults.{risen, faults_after}
+use Rattle.kb_real.specs.Faults.{one_more_fault, faults_after}
 use Rattle.kb_real.specs.Untold.{untold, untold_sink}
 
 rose : {T : Type 0} (before after : ℕ) (result : Result T WorldError) → after ≡ faults_after result before → IsErrOf result Failed → Rose before after
@@ -73,7 +73,7 @@ untold_runs request before after result later faults = record {
   cause = untold_cause before after result later faults;
 }
 
-pub untold_write_fails : {T : Type 0} (piece : List ℕ) (before after : ℕ) → before ≤ after → after ≡ risen before
+pub untold_write_fails : {T : Type 0} (piece : List ℕ) (before after : ℕ) → before ≤ after → after ≡ one_more_fault before
     → Writes piece {T = T} (untold_sink before) (untold_sink after) (Err sink_error.Failed)
 untold_write_fails piece before after later faults = record {
   done = tt;

@@ -8,8 +8,8 @@ use Rattle.std.specs.Cmp.Lexicographic.{slice_cmp}
 abbrev pub is_entry : List ℕ → Bool
 is_entry part = not (nat_eq (length part) 0) && not (bytes_eq part (codes ".")) && not (bytes_eq part (codes ".."))
 
-abbrev pub entries : List (List ℕ) → List (List ℕ)
-entries parts = filter is_entry parts
+abbrev pub listed_names : List (List ℕ) → List (List ℕ)
+listed_names parts = filter is_entry parts
 
 -- each name is below the next, by bytes
 abbrev pub Rises : List (List ℕ) → Type 0

@@ -3,5 +3,5 @@ use Rattle.std.specs.Prelude.{◌≡◌, ℕ, ◌≤◌, List, length, take, Opt
 use Rattle.std.specs.Io.KnownBytes.{Consumes, Keeps, IsAtEnd}
 
 -- A read that wasn't interrupted gave this many bytes at the buffer's front, and none only at the reader's end.
-abbrev pub Gives : Option (List ℕ) → Option (List ℕ) → List ℕ → Option ℕ → Type 0
-Gives old new buffer read = MatchOption read (Keeps old new) (λ count. (count ≤ length buffer) × Consumes old new (take count buffer) × (count ≡ 0 → IsAtEnd new))
+abbrev pub ReadsPiece : Option (List ℕ) → Option (List ℕ) → List ℕ → Option ℕ → Type 0
+ReadsPiece old new buffer read = MatchOption read (Keeps old new) (λ count. (count ≤ length buffer) × Consumes old new (take count buffer) × (count ≡ 0 → IsAtEnd new))

@@ -1,6 +1,6 @@
 // How often the outside has failed.
 ghost use Rattle.std.specs.Prelude.{◌≡◌, ◌≤◌};
-ghost use Rattle.kb_real.specs.Faults.{risen};
+ghost use Rattle.kb_real.specs.Faults.{one_more_fault};
 
 use std::marker::Model;
 
@@ -28,7 +28,7 @@ impl Faults {
 
     /// Counts one more.
     pub fn rise(&mut self)
-        ensures one_more { self.new ≡ risen self.old }
+        ensures one_more { self.new ≡ one_more_fault self.old }
         ensures later { self.old ≤ self.new }
     {
         self.count = self.count.saturating_add(1);

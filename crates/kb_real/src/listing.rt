@@ -2,7 +2,7 @@
 ghost use Rattle.std.specs.Prelude.{◌≡◌, IfOk, IsTrue, IsPermutation, map, ◌==◌};
 ghost use Rattle.std.specs.List.{list_all, slice_split};
 ghost use Rattle.kb_world.specs.Names.{is_name};
-ghost use Rattle.kb_real.specs.Listing.{is_entry, entries, Rises};
+ghost use Rattle.kb_real.specs.Listing.{is_entry, listed_names, Rises};
 
 use kb_world::{Text, is_name};
 use std::alloc::{AllocError, Global};
@@ -36,7 +36,7 @@ fn name_of(alloc: Global, entry: &[u8]) -> io::Result<Text>
 
 // The names of the entries, in the order of the listing.
 fn names_of(alloc: Global, parts: &[&[u8]]) -> io::Result<Vec<Text>>
-    ensures names { IfOk result (λ names. names.items ≡ entries (map (λ part. part.now) parts.now)) }
+    ensures names { IfOk result (λ names. names.items ≡ listed_names (map (λ part. part.now) parts.now)) }
     ensures named { IfOk result (λ names. IsTrue (list_all is_name names.items)) }
 {
     let mut names = Vec::new(alloc);
@@ -62,7 +62,7 @@ fn rises(names: &[Text]) -> bool
 /// The names of a listing, in which each ends with a NUL, by bytes. A name that stands there twice is an error, as is
 /// one that isn't UTF-8 or no name of the tree.
 pub fn names_in(alloc: Global, listing: &[u8]) -> io::Result<Vec<Text>>
-    ensures names { IfOk result (λ names. IsPermutation (entries (slice_split (λ c. c == 0) listing.now)) names.items) }
+    ensures names { IfOk result (λ names. IsPermutation (listed_names (slice_split (λ c. c == 0) listing.now)) names.items) }
     ensures named { IfOk result (λ names. IsTrue (list_all is_name names.items)) }
     ensures ordered { IfOk result (λ names. Rises names.items) }
 {

@@ -2,7 +2,7 @@
 ghost use Rattle.std.specs.Prelude.{◌≡◌, ℕ, length, take, IfOk, IfSome, OnOk, OnErr};
 ghost use Rattle.std.specs.Io.Iter.{u64_saturate};
 ghost use Rattle.std.specs.Io.KnownBytes.{Appends};
-ghost use Rattle.kb_real.specs.Pieces.{Gives};
+ghost use Rattle.kb_real.specs.Pieces.{ReadsPiece};
 
 use kb_world::Bytes;
 use std::alloc::Global;
@@ -23,7 +23,7 @@ pub fn given_up() -> io::Error {
 /// How many bytes at the front of the buffer one read gave, 0 at the reader's end, or nothing where a signal
 /// interrupted it.
 pub fn read_once<R: Read>(reader: &mut R, buffer: &mut [u8; READ_SIZE]) -> io::Result<Option<usize>>
-    ensures { IfOk result (λ read. Gives (R.remaining reader.old) (R.remaining reader.new) buffer.new read) }
+    ensures { IfOk result (λ read. ReadsPiece (R.remaining reader.old) (R.remaining reader.new) buffer.new read) }
 {
     match reader.read(buffer) {
         Ok(count) => Ok(Some(count)),

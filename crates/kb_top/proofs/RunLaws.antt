@@ -20,7 +20,7 @@ use Rattle.kb_top.specs.declared.end.End.TheVariants as end
 use Rattle.kb_words.specs.Words.{Word}
 use Rattle.kb_top.specs.Machine.{outcome_of}
 use Rattle.kb_top.specs.Serve.{Serves}
-use Rattle.kb_top.specs.Run.{Outside, Runs, EndsAs, IsGivenUp, IsDone, IsAnswerOrWant, WroteFront, Wrote, WroteNothing, err_text, with_line}
+use Rattle.kb_top.specs.Run.{Outside, RunsCommand, IsEndOf, IsGivenUp, IsDone, IsAnswerOrWant, WroteFront, Wrote, WroteNothing, err_text, with_line}
 use Rattle.kb_top.specs.Tell.{Sinks, Tells, TellsAs, FinishesAs, SinkFailed, SaysFront, with_message}
 use Rattle.kb_top.proofs.Stays.{refused_stays}
 
@@ -43,7 +43,7 @@ sinks_of outside = record { out = outside.out; err = outside.err }
 -- an outcome whose texts are written ends as it has to
 finished : (roots : Roots) (store : Tree) (outcome : Outcome) (due : Option Refusal) (report : Report) (old new : Outside) (result : End)
     → outcome.end ≡ due → IsDone roots store outcome new.world.tree → new.world.ran ≡ old.world.ran ++ outcome.requests → report.out ≡ outcome.out → report.err ≡ err_text outcome
-    → FinishesAs (end_for due) report (sinks_of old) (sinks_of new) result → EndsAs roots store outcome old new result
+    → FinishesAs (end_for due) report (sinks_of old) (sinks_of new) result → IsEndOf roots store outcome old new result
 finished roots store outcome due report old new end.Done ended tree ran out err f = record {
   ended = ended ∙ done_means due f.0;
   tree = tree;
@@ -78,16 +78,16 @@ nothing_said = record { out = []; err = [] }
 
 -- what was served is told
 ends_as : (roots : Roots) (store : Tree) (outcome : Outcome) (old new : Outside) (report : Report) (answer : Result (Unit {0}) Stop) (result : End)
-    → Answers roots store outcome answer old.world new.world nothing_said report → TellsAs answer report (sinks_of old) (sinks_of new) result → EndsAs roots store outcome old new result
+    → Answers roots store outcome answer old.world new.world nothing_said report → TellsAs answer report (sinks_of old) (sinks_of new) result → IsEndOf roots store outcome old new result
 ends_as roots store outcome old new report (Ok u) result came told =
     finished roots store outcome None report old new result came.end came.tree came.ran came.out (came.err ∙ ap (with_line outcome.err) (sym came.end)) told
 ends_as roots store outcome old new report (Err (Refused why)) result came told =
     finished roots store outcome (Some why) (with_message report why) old new result came.end came.tree came.ran came.out
     (ap (λ t. t ++ message_of why) came.err ∙ ap (with_line outcome.err) (sym came.end)) told
-ends_as roots store outcome old new report (Err Fault) result came told = subst (λ e. EndsAs roots store outcome old new e) (sym told.0) tt
+ends_as roots store outcome old new report (Err Fault) result came told = subst (λ e. IsEndOf roots store outcome old new e) (sym told.0) tt
 ends_as roots store outcome old new report (Err NoMemory) result came told =
     let given_up : IsGivenUp outcome old new = record { out = inl told.1; err = told.2 } in
-    subst (λ e. EndsAs roots store outcome old new e) (sym told.0) given_up
+    subst (λ e. IsEndOf roots store outcome old new e) (sym told.0) given_up
 
 -- ---- which end comes when
 
@@ -135,7 +135,7 @@ tells_steady report old new result (Err NoMemory) never faultless told = subst I
 
 -- a refusal is the outcome's, and it has changed nothing
 refused_same : (host : Host) (script : Script) (words : List Word) (tree now : Tree) (old new : Outside) (why : Refusal)
-    → EndsAs host.roots (public_tree host.roots tree) (outcome_of host script words tree) old new (end.Refused why)
+    → IsEndOf host.roots (public_tree host.roots tree) (outcome_of host script words tree) old new (end.Refused why)
     → new.world.tree ≡ Some now → public_tree host.roots now ≡ public_tree host.roots tree
 refused_same host script words tree now old new why answered is =
     let found = answered.tree in
@@ -146,17 +146,17 @@ refused_same host script words tree now old new why answered is =
 -- the whole call
 pub runs : (host : Host) (words : List Word) (old_world new_world : State) (old new : Sinks) (report : Report) (answer : Result (Unit {0}) Stop) (result : End)
     → Serves host words old_world new_world nothing_said report answer → Tells answer report old new result
-    → Runs host words (record { world = old_world; out = old.out; err = old.err }) (record { world = new_world; out = new.out; err = new.err }) result
+    → RunsCommand host words (record { world = old_world; out = old.out; err = old.err }) (record { world = new_world; out = new.out; err = new.err }) result
 runs host words old_world new_world old new report answer result s t =
     let before : Outside = record { world = old_world; out = old.out; err = old.err } in
     let after : Outside = record { world = new_world; out = new.out; err = new.err } in
-    let ends : (tree : Tree) → old_world.tree ≡ Some tree → old_world.roots ≡ host.roots → EndsAs host.roots (public_tree host.roots tree) (outcome_of host old_world.script words tree) before after result =
+    let ends : (tree : Tree) → old_world.tree ≡ Some tree → old_world.roots ≡ host.roots → IsEndOf host.roots (public_tree host.roots tree) (outcome_of host old_world.script words tree) before after result =
     λ tree told rooted. ends_as host.roots (public_tree host.roots tree) (outcome_of host old_world.script words tree) before after report answer result (s.answers tree told rooted) t.ends in
     record {
       ends = ends;
       refused = λ why is rooted tree told now told_now.
           refused_same host old_world.script words tree now before after why
-          (subst (λ r. EndsAs host.roots (public_tree host.roots tree) (outcome_of host old_world.script words tree) before after r) is (ends tree told rooted)) told_now;
+          (subst (λ r. IsEndOf host.roots (public_tree host.roots tree) (outcome_of host old_world.script words tree) before after r) is (ends tree told rooted)) told_now;
       damaged = s.damaged;
       fault = λ is. let f = tells_fault report old new result answer t.ends is in record { rose = s.cause.rose f.0; out = f.1; err = f.2 };
       sink_fault = λ is. (tells_sink report old new result answer t.ends is).rose;
@@ -172,7 +172,7 @@ runs host words old_world new_world old new report answer result s t =
 -- the same, from a report that is known to be empty
 pub runs_from_empty : (host : Host) (words : List Word) (old_world new_world : State) (old new : Sinks) (out err : List ℕ) (report : Report) (answer : Result (Unit {0}) Stop) (result : End)
     → out ≡ [] → err ≡ [] → Serves host words old_world new_world (record { out = out; err = err }) report answer → Tells answer report old new result
-    → Runs host words (record { world = old_world; out = old.out; err = old.err }) (record { world = new_world; out = new.out; err = new.err }) result
+    → RunsCommand host words (record { world = old_world; out = old.out; err = old.err }) (record { world = new_world; out = new.out; err = new.err }) result
 runs_from_empty host words old_world new_world old new out err report answer result no_out no_err s t =
     runs host words old_world new_world old new report answer result
     (subst (λ e. Serves host words old_world new_world (record { out = []; err = e }) report answer) no_err
@@ -180,7 +180,7 @@ runs_from_empty host words old_world new_world old new out err report answer res
 
 -- want of memory before anything was done
 pub runs_wanting : (host : Host) (words : List Word) (world : State) (out old_err new_err : SinkState) → SaysFront no_memory_line old_err new_err
-    → Runs host words (record { world = world; out = out; err = old_err }) (record { world = world; out = out; err = new_err }) end.NoMemory
+    → RunsCommand host words (record { world = world; out = out; err = old_err }) (record { world = world; out = out; err = new_err }) end.NoMemory
 runs_wanting host words world out old_err new_err says = record {
   ends = λ tree told rooted. record { out = inl refl; err = says.front };
   refused = λ why is. let impossible : end.NoMemory ≡ end.Refused why = is in cc;

@@ -12,7 +12,7 @@ use Rattle.kb_words.specs.Words.{Word}
 use Rattle.kb_top.specs.declared.setting.Setting.{Setting}
 use Rattle.kb_top.specs.declared.end.End.{End}
 use Rattle.kb_top.specs.declared.end.End.TheVariants as end
-use Rattle.kb_top.specs.Run.{Outside, Runs}
+use Rattle.kb_top.specs.Run.{Outside, RunsCommand}
 use Rattle.kb_top.specs.Tell.{SaysFront}
 use Rattle.kb_top.specs.Setting.{IsPathOf, IsBase, with_boot, HasBoot, IsHostOf, IsBadBase, IsBadRoot, IsBadBootFor, IsBadBoot}
 use Rattle.kb_top.specs.Start.{IsSetAside, Starts}
@@ -65,10 +65,10 @@ pub bad_root_or_boot : (setting : Setting) → IsBadRoot setting → IsBadBoot s
 bad_root_or_boot setting root boot = no_base setting.root boot.base boot.base_is root
 
 -- the words were run
-pub starts_good : (setting : Setting) (host : Host) (words : List Word) (old new : Outside) (result : End) → IsHostOf setting host → Runs host words old new result
+pub starts_good : (setting : Setting) (host : Host) (words : List Word) (old new : Outside) (result : End) → IsHostOf setting host → RunsCommand host words old new result
     → Starts setting words old new result
 starts_good setting host words old new result is ran = record {
-  good = λ other also. subst (λ h. Runs h words old new result) (one_host setting host other is also) ran;
+  good = λ other also. subst (λ h. RunsCommand h words old new result) (one_host setting host other is also) ran;
   bad_root = λ bad. absurd (good_or_bad_root setting host is bad);
   bad_boot = λ bad. absurd (good_or_bad_boot setting host is bad);
 }

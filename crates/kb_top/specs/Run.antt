@@ -76,14 +76,14 @@ pub record IsGivenUp (outcome : Outcome) (old new : Outside) : Type 0 where
   pub out : WroteNothing old.out new.out ⊎ Wrote outcome.out old.out new.out
   pub err : WroteFront no_memory_line old.err new.err
 
-abbrev pub EndsAs : Roots → Tree → Outcome → Outside → Outside → End → Type 0
-EndsAs roots store outcome old new end.Done = IsAnswered roots store outcome None old new
-EndsAs roots store outcome old new (end.Refused why) = IsAnswered roots store outcome (Some why) old new
-EndsAs roots store outcome old new end.SinkFault = IsCutShort roots store outcome old new
-EndsAs roots store outcome old new end.NoMemory = IsGivenUp outcome old new
-EndsAs roots store outcome old new end.Fault = Unit {0}
-EndsAs roots store outcome old new end.BadRoot = ⊥
-EndsAs roots store outcome old new end.BadBoot = ⊥
+abbrev pub IsEndOf : Roots → Tree → Outcome → Outside → Outside → End → Type 0
+IsEndOf roots store outcome old new end.Done = IsAnswered roots store outcome None old new
+IsEndOf roots store outcome old new (end.Refused why) = IsAnswered roots store outcome (Some why) old new
+IsEndOf roots store outcome old new end.SinkFault = IsCutShort roots store outcome old new
+IsEndOf roots store outcome old new end.NoMemory = IsGivenUp outcome old new
+IsEndOf roots store outcome old new end.Fault = Unit {0}
+IsEndOf roots store outcome old new end.BadRoot = ⊥
+IsEndOf roots store outcome old new end.BadBoot = ⊥
 
 -- The outside failed: the count says so, nothing went to standard output, and a front of the fixed line to the other.
 pub record IsFaulted (old new : Outside) : Type 0 where
@@ -113,10 +113,10 @@ pub record CountsStay (old new : Outside) : Type 0 where
   pub err : old.err.faults ≤ new.err.faults
 
 -- The clause of the top call.
-pub record Runs (host : Host) (words : List Word) (old new : Outside) (result : End) : Type 0 where
+pub record RunsCommand (host : Host) (words : List Word) (old new : Outside) (result : End) : Type 0 where
   -- over a told tree, of a world whose roots are the host's, it equals the command machine
   pub ends : ForSome old.world.tree (λ tree. old.world.roots ≡ host.roots →
-      EndsAs host.roots (public_tree host.roots tree) (outcome_of host old.world.script words tree) old new result)
+      IsEndOf host.roots (public_tree host.roots tree) (outcome_of host old.world.script words tree) old new result)
   -- a refusal leaves the public tree as it was
   pub refused : (why : Refusal) → result ≡ end.Refused why → old.world.roots ≡ host.roots →
       ForSome old.world.tree (λ tree. ForSome new.world.tree (λ now. public_tree host.roots now ≡ public_tree host.roots tree))

@@ -7,7 +7,7 @@ use Rattle.kb_words.specs.Words.{Word}
 use Rattle.kb_top.specs.declared.setting.Setting.{Setting}
 use Rattle.kb_top.specs.declared.end.End.{End}
 use Rattle.kb_top.specs.declared.end.End.TheVariants as end
-use Rattle.kb_top.specs.Run.{Outside, Runs, WroteFront, AreSteady, CountsStay}
+use Rattle.kb_top.specs.Run.{Outside, RunsCommand, WroteFront, AreSteady, CountsStay}
 use Rattle.kb_top.specs.Setting.{IsHostOf, IsBadRoot, IsBadBoot}
 
 -- The call ends so, and a front of the line was written to standard error; or memory ran out, and a front of its line.
@@ -21,6 +21,6 @@ pub record IsSetAside (due : End) (line : List ℕ) (old new : Outside) (result 
 
 -- The clause of the program's call.
 pub record Starts (setting : Setting) (words : List Word) (old new : Outside) (result : End) : Type 0 where
-  pub good : (host : Host) → IsHostOf setting host → Runs host words old new result
+  pub good : (host : Host) → IsHostOf setting host → RunsCommand host words old new result
   pub bad_root : IsBadRoot setting → IsSetAside end.BadRoot bad_root_line old new result
   pub bad_boot : IsBadBoot setting → IsSetAside end.BadBoot bad_boot_line old new result

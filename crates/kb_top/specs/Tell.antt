@@ -81,14 +81,14 @@ pub record Finishes (due : End) (report : Report) (old new : Sinks) (result : En
   pub go_on : SinksGoOn old new
 
 -- an answer: done, or refused
-abbrev pub IsAnswer : End → Type 0
-IsAnswer end.Done = Unit {0}
-IsAnswer (end.Refused why) = Unit {0}
-IsAnswer end.Fault = ⊥
-IsAnswer end.NoMemory = ⊥
-IsAnswer end.SinkFault = ⊥
-IsAnswer end.BadRoot = ⊥
-IsAnswer end.BadBoot = ⊥
+abbrev pub IsCommandAnswer : End → Type 0
+IsCommandAnswer end.Done = Unit {0}
+IsCommandAnswer (end.Refused why) = Unit {0}
+IsCommandAnswer end.Fault = ⊥
+IsCommandAnswer end.NoMemory = ⊥
+IsCommandAnswer end.SinkFault = ⊥
+IsCommandAnswer end.BadRoot = ⊥
+IsCommandAnswer end.BadBoot = ⊥
 
 -- the report with the refusal's line
 abbrev pub with_message : Report → Refusal → Report

@@ -1,6 +1,6 @@
 // The top call.
 ghost use Rattle.kb_world.specs.Roots.{AreApart};
-ghost use Rattle.kb_top.specs.Run.{Runs};
+ghost use Rattle.kb_top.specs.Run.{RunsCommand};
 ghost use Rattle.kb_top.specs.Start.{Starts};
 
 use crate::end::End;
@@ -26,7 +26,7 @@ pub fn run<W: World, O: Sink, E: Sink>(
     err: &mut E,
 ) -> End
     requires { AreApart host.now.roots }
-    ensures { Runs host.now words.now (record { world = W.state world.old; out = O.state out.old; err = E.state err.old })
+    ensures { RunsCommand host.now words.now (record { world = W.state world.old; out = O.state out.old; err = E.state err.old })
         (record { world = W.state world.new; out = O.state out.new; err = E.state err.new }) result }
 {
     let mut report = Report {

@@ -128,7 +128,7 @@ fn perform<W: World>(
     report: &mut Report,
     command: &Command,
 ) -> Result<(), Stop>
-    requires named { words.keeps_rules command.now ≡ true }
+    requires named { words.names_keep_rules command.now ≡ true }
     requires known { IsTrue (keeps_rules job.now.host) }
     requires apart { AreApart job.now.host.roots }
     ensures { Does job.now.host.roots (perform job.now.host (W.state world.old).script command.now) (W.state world.old) (W.state world.new) report.old report.new result }

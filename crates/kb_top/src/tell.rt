@@ -1,7 +1,7 @@
 // What a command has to say goes to the two sinks, each once, after all its work is done.
 ghost use Rattle.std.specs.Prelude.{◌≡◌, OnOk};
 ghost use Rattle.kb_world.specs.SinkState.{Writes};
-ghost use Rattle.kb_top.specs.Tell.{Sinks, Delivers, SaysFront, Finishes, Tells, IsAnswer, with_message};
+ghost use Rattle.kb_top.specs.Tell.{Sinks, Delivers, SaysFront, Finishes, Tells, IsCommandAnswer, with_message};
 
 use crate::end::End;
 use kb_world::{Refusal, Report, Sink, SinkError, Stop, fault_line, message, no_memory_line};
@@ -36,7 +36,7 @@ fn deliver<O: Sink, E: Sink>(report: &Report, out: &mut O, err: &mut E) -> Resul
 
 // The end of a command that has its answer.
 fn finish<O: Sink, E: Sink>(due: End, report: &Report, out: &mut O, err: &mut E) -> End
-    requires { IsAnswer due }
+    requires { IsCommandAnswer due }
     ensures { Finishes due report.now (record { out = O.state out.old; err = E.state err.old })
         (record { out = O.state out.new; err = E.state err.new }) result }
 {

@@ -141,7 +141,7 @@ fn text_if_any(alloc: Global, text: Option<&str>) -> Result<Option<Text>, AllocE
     }
 }
 
-// Runs the words over the world and the sinks.
+// RunsCommand the words over the world and the sinks.
 fn start_with(
     alloc: Global,
     world: &mut MemoryWorld,

@@ -11,7 +11,7 @@ use Rattle.std.specs.Cmp.Lexicographic.{slice_cmp}
 use Rattle.std.specs.Char.{digit_value}
 use Rattle.std.specs.Str.Parse.{AllDigits, digits_value, digits_value_after}
 use Rattle.std.proofs.lemmas.Cmp.{by_ranked, tied_itself, nat_cmp_total}
-use Rattle.kb_version.specs.declared.piece.TheConstants.{ZERO}
+use Rattle.kb_version.specs.Signs.{digit_zero}
 use Rattle.kb_version.specs.Digits.{without_zeros}
 
 nat_cmp-Less : (m n : ℕ) → m < n → nat_cmp m n ≡ Less
@@ -61,7 +61,7 @@ slice_cmp-digits n (x ∷ xs) (y ∷ ys) left right same =
 -- the first digit, if there is one, is no zero
 abbrev pub IsSignificant : List ℕ → Type 0
 IsSignificant [] = ⊤
-IsSignificant (d ∷ ds) = d ≢ ZERO
+IsSignificant (d ∷ ds) = d ≢ digit_zero
 
 -- a number with fewer significant digits is less
 digits_value-shorter : (xs ys : List ℕ) → AllDigits 10 xs → AllDigits 10 ys → IsSignificant ys → length xs < length ys → digits_value 10 xs < digits_value 10 ys

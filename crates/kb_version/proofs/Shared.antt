@@ -9,7 +9,7 @@ use Rattle.std.specs.Ordering.{ordering_then}
 use Rattle.std.specs.Cmp.Lexicographic.{slice_cmp}
 use Rattle.std.specs.Char.{is_ascii_alphabetic, is_ascii_digit, is_ascii_alphanumeric}
 use Rattle.std.specs.Str.Parse.{digits_value}
-use Rattle.kb_version.specs.Items.{Item, Letters, Number, Kind, Letter, Digit, Sign, Skipped, kind_of, items_at, items_after, items}
+use Rattle.kb_version.specs.Items.{Item, Letters, Number, Kind, Letter, Digit, Sign, Skipped, byte_kind, items_at, items_after, items}
 use Rattle.kb_version.specs.Order.{item_order, items_order}
 use Rattle.kb_version.specs.OrderLaws.{item_order_total}
 use Rattle.kb_version.proofs.Runs.{kind_of-no_letter, kind_of-no_digit}
@@ -66,13 +66,13 @@ rest_decides : (before : Kind) (run : List ℕ) (c : ℕ) (l r : List ℕ) → i
 rest_decides before [] c l r e =
     let no_run = kind_of-no_letter c (no_letter c e) in
     let no_number = kind_of-no_digit c (no_digit c e) in
-    begin_alike (items_at before (kind_of c) c l) (items_at before (kind_of c) c r) (items_after (kind_of c) l) (items_after (kind_of c) r) (items_at-apart before (kind_of c) c l r no_run no_number)
-    ∙ ap (λ behind. slice_cmp item_order behind (items_after (kind_of c) r)) (items_after-apart (kind_of c) l no_run no_number)
-    ∙ ap (λ behind. slice_cmp item_order (items l) behind) (items_after-apart (kind_of c) r no_run no_number)
+    begin_alike (items_at before (byte_kind c) c l) (items_at before (byte_kind c) c r) (items_after (byte_kind c) l) (items_after (byte_kind c) r) (items_at-apart before (byte_kind c) c l r no_run no_number)
+    ∙ ap (λ behind. slice_cmp item_order behind (items_after (byte_kind c) r)) (items_after-apart (byte_kind c) l no_run no_number)
+    ∙ ap (λ behind. slice_cmp item_order (items l) behind) (items_after-apart (byte_kind c) r no_run no_number)
 rest_decides before (d ∷ run) c l r e =
-    begin_alike (items_at before (kind_of d) d (run ++ c ∷ l)) (items_at before (kind_of d) d (run ++ c ∷ r)) (items_after (kind_of d) (run ++ c ∷ l)) (items_after (kind_of d) (run ++ c ∷ r))
-    (items_at-same before (kind_of d) d (run ++ c ∷ l) (run ++ c ∷ r) (take_while-ended is_ascii_alphabetic run c l r (no_letter c e)) (take_while-ended is_ascii_digit run c l r (no_digit c e)))
-    ∙ rest_decides (kind_of d) run c l r e
+    begin_alike (items_at before (byte_kind d) d (run ++ c ∷ l)) (items_at before (byte_kind d) d (run ++ c ∷ r)) (items_after (byte_kind d) (run ++ c ∷ l)) (items_after (byte_kind d) (run ++ c ∷ r))
+    (items_at-same before (byte_kind d) d (run ++ c ∷ l) (run ++ c ∷ r) (take_while-ended is_ascii_alphabetic run c l r (no_letter c e)) (take_while-ended is_ascii_digit run c l r (no_digit c e)))
+    ∙ rest_decides (byte_kind d) run c l r e
 
 -- two texts are the same up to these rests
 pub record Shares (left right left_rest right_rest : List ℕ) : Type 0 where

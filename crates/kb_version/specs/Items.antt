@@ -3,7 +3,7 @@ use Rattle.std.specs.Prelude.{ℕ, List, [], ◌∷◌, ◌++◌, ◌==◌, if�
 use Rattle.std.specs.List.{take_while}
 use Rattle.std.specs.Char.{is_ascii_alphabetic, is_ascii_digit}
 use Rattle.std.specs.Str.Parse.{digits_value}
-use Rattle.kb_version.specs.declared.piece.TheConstants.{TILDE, DASH, CARET, DOT}
+use Rattle.kb_version.specs.Signs.{tilde, dash, caret, dot}
 
 -- a sign, the end of the text, a run of letters with its bytes, or a run of digits with the number that it writes
 pub data Item : Type 0 where
@@ -22,14 +22,14 @@ pub data Kind : Type 0 where
   Sign : Item → Kind
   Skipped : Kind
 
-abbrev pub kind_of : ℕ → Kind
-kind_of c =
+abbrev pub byte_kind : ℕ → Kind
+byte_kind c =
     if is_ascii_alphabetic c then Letter else
     if is_ascii_digit c then Digit else
-    if c == TILDE then Sign Tilde else
-    if c == DASH then Sign Dash else
-    if c == CARET then Sign Caret else
-    if c == DOT then Sign Dot else Skipped
+    if c == tilde then Sign Tilde else
+    if c == dash then Sign Dash else
+    if c == caret then Sign Caret else
+    if c == dot then Sign Dot else Skipped
 
 -- the items that begin at a byte c, one or none: `before` is the kind of the byte before it, then its own kind, and `rest` what follows it.
 -- A run begins at a byte that doesn't go on with the run before it, and it goes as far as it can
@@ -44,7 +44,7 @@ items_at before Skipped c rest = []
 -- the items of a text that follows a byte of this kind, the end among them
 abbrev pub items_after : Kind → List ℕ → List Item
 items_after before [] = End ∷ []
-items_after before (c ∷ rest) = items_at before (kind_of c) c rest ++ items_after (kind_of c) rest
+items_after before (c ∷ rest) = items_at before (byte_kind c) c rest ++ items_after (byte_kind c) rest
 
 -- the items of a whole text, whose first byte begins an item as it would after a skipped one
 abbrev pub items : List ℕ → List Item

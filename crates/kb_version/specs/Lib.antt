@@ -1,3 +1,4 @@
+pub mod Signs
 pub mod Items
 pub mod Order
 pub mod OrderLaws

@@ -15,9 +15,9 @@ item_of (piece.Letters run) = Letters run.now
 item_of (piece.Digits run) = Number (digits_value 10 run.now)
 
 -- a piece of digits has digits alone
-abbrev pub IsFormed : Piece → Type 0
-IsFormed (piece.Digits run) = AllDigits 10 run.now
-IsFormed other = ⊤
+abbrev pub HasDigitsAlone : Piece → Type 0
+HasDigitsAlone (piece.Digits run) = AllDigits 10 run.now
+HasDigitsAlone other = ⊤
 
 -- the items after an item, in the text behind it: none after the end
 abbrev pub items_behind : Item → List ℕ → List Item

@@ -5,7 +5,7 @@ ghost use Rattle.std.specs.Ordering.{nat_cmp};
 ghost use Rattle.std.specs.Str.Parse.{digits_value, AllDigits};
 ghost use Rattle.std.specs.Char.{is_ascii_alphabetic, is_ascii_digit};
 ghost use Rattle.kb_version.specs.Items.{items, End};
-ghost use Rattle.kb_version.specs.Piece.{item_of, items_behind, IsFormed};
+ghost use Rattle.kb_version.specs.Piece.{item_of, items_behind, HasDigitsAlone};
 ghost use Rattle.kb_version.specs.Digits.{without_zeros};
 ghost use Rattle.kb_version.specs.Order.{item_order, rank};
 
@@ -60,8 +60,8 @@ impl Piece<'_> {
 
 /// Compares two items.
 pub fn piece_cmp(x: Piece<'_>, y: Piece<'_>) -> Ordering
-    requires x_formed { IsFormed x }
-    requires y_formed { IsFormed y }
+    requires x_formed { HasDigitsAlone x }
+    requires y_formed { HasDigitsAlone y }
     ensures { result ≡ item_order (item_of x.entry) (item_of y.entry) }
 {
     match (x, y) {
@@ -97,7 +97,7 @@ fn without_zeros(digits: &[u8]) -> &[u8]
 /// Cuts the first item off a text, past what is skipped, and gives the text behind it.
 pub fn next_piece(text: &[u8]) -> (Piece<'_>, &[u8])
     ensures items { items text.now ≡ item_of result.0 ∷ items_behind (item_of result.0) result.1.now }
-    ensures formed { IsFormed result.0 }
+    ensures formed { HasDigitsAlone result.0 }
     ensures shorter { item_of result.0 ≢ End → length result.1.now < length text.now }
 {
     let mut rest = text;

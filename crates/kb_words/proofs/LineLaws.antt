@@ -4,11 +4,11 @@ use Rattle.std.specs.Option.{option_map}
 use Rattle.std.specs.Cmp.Lexicographic.{bytes_decides}
 use Rattle.kb_words.specs.declared.command.Command.TheVariants as command
 use Rattle.kb_words.specs.Words.{Word, Line, ForCommand, ForArchive, IsLine, is_archive}
-use Rattle.kb_words.specs.Reading.{Seen, nothing, seen_after, State, Start, Help, Dkms, Archive, Add, after_start, after_dkms, after, ended}
+use Rattle.kb_words.specs.Reading.{Seen, nothing, seen_after, Progress, Start, Help, Dkms, Archive, Add, after_start, after_dkms, after_word, ended}
 use Rattle.kb_words.proofs.PartLaws.{Completes, FollowsSeen, none_some, same_some, heads, tails, no_head, parts_go_on, parts_come_from, parts_end, parts_ended, parts_completed}
 
 -- from this state on, these words complete this line
-abbrev pub Rest : State → List Word → Line → Type 0
+abbrev pub Rest : Progress → List Word → Line → Type 0
 Rest Start words line = IsLine words line
 Rest Help words line = (words ≡ []) × (line ≡ ForCommand command.Help None)
 Rest Dkms words line = IsLine (codes "dkms" ∷ words) line
@@ -20,10 +20,10 @@ other_word word text other same = true≢false (sym ((bytes_decides word text).1
 
 -- ---- a word more
 
-abbrev GoesOn : State → Word → List Word → Line → Type 0
-GoesOn state word rest line = (next : State) × (after state word ≡ Some next) × Rest next rest line
+abbrev GoesOn : Progress → Word → List Word → Line → Type 0
+GoesOn state word rest line = (next : Progress) × (after_word state word ≡ Some next) × Rest next rest line
 
-abbrev by_archive : Word → Bool → Bool → Option State
+abbrev by_archive : Word → Bool → Bool → Option Progress
 by_archive word add archive = cond add (Some (Add nothing)) (cond archive (Some (Archive word)) None)
 
 archive_goes : (action : Word) → is_archive action ≡ true → after_dkms action ≡ Some (Archive action)
@@ -33,7 +33,7 @@ archive_goes action is = by_case (bytes_eq action (codes "add")) refl
     by_case true e = absurd (true≢false (sym is ∙ ap is_archive ((bytes_decides action (codes "add")).0 e)))
     by_case false e = (λ i. by_archive action (e i) (is i))
 
-pub goes_on : (state : State) (word : Word) (rest : List Word) (line : Line) → Rest state (word ∷ rest) line → (next : State) × (after state word ≡ Some next) × Rest next rest line
+pub goes_on : (state : Progress) (word : Word) (rest : List Word) (line : Line) → Rest state (word ∷ rest) line → (next : Progress) × (after_word state word ≡ Some next) × Rest next rest line
 goes_on Start word rest (ForCommand command.Help bad) is = (Help, ap after_start (heads word (codes "help") rest [] is.0), (tails word (codes "help") rest [] is.0, ap (ForCommand command.Help) is.1))
 goes_on Start word rest (ForCommand (command.Add key) bad) is =
     let behind = codes "add" ∷ is.0 in (
@@ -74,7 +74,7 @@ goes_on (Add seen) word rest line is =
 
 -- ---- a word less
 
-rest_as : (a b : State) (rest : List Word) (line : Line) → Some a ≡ Some b → Rest b rest line → Rest a rest line
+rest_as : (a b : Progress) (rest : List Word) (line : Line) → Some a ≡ Some b → Rest b rest line → Rest a rest line
 rest_as a b rest line same is = subst (λ state. Rest state rest line) (sym (same_some a b same)) is
 
 help_comes : (word : Word) (rest : List Word) (line : Line) → word ≡ codes "help" → Rest Help rest line → IsLine (word ∷ rest) line
@@ -88,7 +88,7 @@ add_comes word rest line at c =
 archive_comes : (word : Word) (rest : List Word) (line : Line) → is_archive word ≡ true → line ≡ ForArchive word → IsLine (codes "dkms" ∷ word ∷ rest) line
 archive_comes word rest line archive is = subst (IsLine (codes "dkms" ∷ word ∷ rest)) (sym is) (rest, refl, archive)
 
-pub comes_from : (state next : State) (word : Word) (rest : List Word) (line : Line) → after state word ≡ Some next → Rest next rest line → Rest state (word ∷ rest) line
+pub comes_from : (state next : Progress) (word : Word) (rest : List Word) (line : Line) → after_word state word ≡ Some next → Rest next rest line → Rest state (word ∷ rest) line
 comes_from Start next word rest line e is = by_case (bytes_eq word (codes "help")) (bytes_eq word (codes "dkms")) refl refl e
   where
     by_case : (h d : Bool) → bytes_eq word (codes "help") ≡ h → bytes_eq word (codes "dkms") ≡ d → cond h (Some Help) (cond d (Some Dkms) None) ≡ Some next → IsLine (word ∷ rest) line
@@ -111,7 +111,7 @@ comes_from (Add seen) next word rest line e is = by_case (seen_after seen word) 
 
 -- ---- no word more
 
-pub ends : (state : State) (line : Line) → ended state ≡ Some line → Rest state [] line
+pub ends : (state : Progress) (line : Line) → ended state ≡ Some line → Rest state [] line
 ends Start line is = absurd (none_some line is)
 ends Help line is = (refl, sym (same_some (ForCommand command.Help None) line is))
 ends Dkms line is = absurd (none_some line is)
@@ -128,7 +128,7 @@ no_words (ForCommand command.Help bad) is = no_head (codes "help") [] (sym is.0)
 no_words (ForCommand (command.Add key) bad) is = no_head (codes "dkms") (codes "add" ∷ is.0) (sym is.2)
 no_words (ForArchive action) is = no_head (codes "dkms") (action ∷ is.0) (sym is.1)
 
-pub ended_so : (state : State) (line : Line) → Rest state [] line → ended state ≡ Some line
+pub ended_so : (state : Progress) (line : Line) → Rest state [] line → ended state ≡ Some line
 ended_so Start line is = absurd (no_words line is)
 ended_so Help line is = ap Some (sym is.1)
 ended_so Dkms line is = absurd (dkms_alone line is)
@@ -137,7 +137,7 @@ ended_so (Add seen) line is = parts_ended seen line is
 
 -- ---- every state is on the way to a line
 
-pub completed : (state : State) → (words : List Word) × (line : Line) × Rest state words line
+pub completed : (state : Progress) → (words : List Word) × (line : Line) × Rest state words line
 completed Start = (codes "help" ∷ [], ForCommand command.Help None, (refl, refl))
 completed Help = ([], ForCommand command.Help None, (refl, refl))
 completed Dkms = (codes "mkrpm" ∷ [], ForArchive (codes "mkrpm"), ([], refl, refl))

@@ -9,8 +9,8 @@ use Rattle.std.proofs.lemmas.List.{take_at}
 use Rattle.kb_world.specs.declared.job.Key.{Key}
 use Rattle.kb_words.specs.declared.parts.Argument.{Argument}
 use Rattle.kb_words.specs.declared.parts.Argument.TheVariants as argument
-use Rattle.kb_words.specs.Words.{Word, has_slash, begins_with_dash, is_given, is_package}
-use Rattle.kb_words.specs.Reading.{package_of, argument_behind}
+use Rattle.kb_words.specs.Words.{Word, has_slash, begins_with_dash, is_nonempty, is_package}
+use Rattle.kb_words.specs.Reading.{package_in, argument_behind}
 
 abbrev pub joined : Key → Word
 joined key = key.module ++ byte "/" ∷ key.version
@@ -77,11 +77,11 @@ plain_front (c ∷ word) = by_case (is_slash c) refl (plain_front word)
         ∙ ap (λ n. has_slash (take n (c ∷ word))) (one-add (position_or_len is_slash word))
         ∙ ap (λ b. b || has_slash (before_first is_slash word)) e ∙ h
 
-given_long : (word : Word) → is_given word ≡ true → 0 < length word
+given_long : (word : Word) → is_nonempty word ≡ true → 0 < length word
 given_long [] h = absurd (true≢false (sym h))
 given_long (c ∷ word) h = omega arith
 
-slash_within : (word : Word) → is_given (after_first is_slash word) ≡ true → position_or_len is_slash word < length word
+slash_within : (word : Word) → is_nonempty (after_first is_slash word) ≡ true → position_or_len is_slash word < length word
 slash_within word h =
     let long = given_long (after_first is_slash word) h in
     let is = length-drop (position_or_len is_slash word + 1) word in
@@ -89,21 +89,21 @@ slash_within word h =
 
 -- ---- packages
 
-pub package_from : (word : Word) (key : Key) → package_of word ≡ Some key → (is_package key ≡ true) × (word ≡ joined key)
+pub package_from : (word : Word) (key : Key) → package_in word ≡ Some key → (is_package key ≡ true) × (word ≡ joined key)
 package_from word key h =
     let front : Word = before_first is_slash word in
     let back : Word = after_first is_slash word in
     let split : Key = record { «module» = front; version = back } in
-    let got = found_if {T = Key} (not (begins_with_dash front) && is_given front && is_given back && not (has_slash back)) split key h in
-    let each = all_four (not (begins_with_dash front)) (is_given front) (is_given back) (not (has_slash back)) got.0 in
+    let got = found_if {T = Key} (not (begins_with_dash front) && is_nonempty front && is_nonempty back && not (has_slash back)) split key h in
+    let each = all_four (not (begins_with_dash front)) (is_nonempty front) (is_nonempty back) (not (has_slash back)) got.0 in
     let within = slash_within word each.2 in
     let slash = eqb-true (get_or word (position_or_len is_slash word) 0) (byte "/") (passes_at_first is_slash word 0 within) in
     let is : is_package split ≡ true = (λ i. each.0 i && each.1 i && each.2 i && not (plain_front word i) && each.3 i) in
     (ap is_package (sym got.1) ∙ is, split_at_first is_slash word 0 within ∙ ap (λ c. front ++ c ∷ back) slash ∙ ap joined got.1)
 
-pub package_into : (key : Key) → is_package key ≡ true → package_of (joined key) ≡ Some key
+pub package_into : (key : Key) → is_package key ≡ true → package_in (joined key) ≡ Some key
 package_into key h =
-    let each = all_five (not (begins_with_dash key.module)) (is_given key.module) (is_given key.version) (not (has_slash key.module)) (not (has_slash key.version)) h in
+    let each = all_five (not (begins_with_dash key.module)) (is_nonempty key.module) (is_nonempty key.version) (not (has_slash key.module)) (not (has_slash key.version)) h in
     let one = not_true (has_slash key.module) each.3 in
     let front = before_slash key.module key.version one in
     let back = after_slash key.module key.version one in
@@ -112,7 +112,7 @@ package_into key h =
     split_as : Word → Word → Option Key
     split_as front back =
         let split : Key = record { «module» = front; version = back } in
-        cond (not (begins_with_dash front) && is_given front && is_given back && not (has_slash back)) (Some split) None
+        cond (not (begins_with_dash front) && is_nonempty front && is_nonempty back && not (has_slash back)) (Some split) None
 
 -- ---- options
 
@@ -120,7 +120,7 @@ abbrev argument_by : Bool → Bool → Option Argument
 argument_by m v = cond m (Some argument.Module) (cond v (Some argument.Version) None)
 
 -- what begins with no dash is no option
-no_option : (word : Word) → is_given word ≡ true → begins_with_dash word ≡ false → argument_behind word ≡ None
+no_option : (word : Word) → is_nonempty word ≡ true → begins_with_dash word ≡ false → argument_behind word ≡ None
 no_option word long plain = by_case (bytes_eq word (codes "-m")) (bytes_eq word (codes "-v")) refl refl
   where
     by_case : (m v : Bool) → bytes_eq word (codes "-m") ≡ m → bytes_eq word (codes "-v") ≡ v → argument_by m v ≡ None
@@ -130,11 +130,11 @@ no_option word long plain = by_case (bytes_eq word (codes "-m")) (bytes_eq word 
 
 pub package_no_option : (key : Key) → is_package key ≡ true → argument_behind (joined key) ≡ None
 package_no_option key h =
-    let each = all_five (not (begins_with_dash key.module)) (is_given key.module) (is_given key.version) (not (has_slash key.module)) (not (has_slash key.version)) h in
+    let each = all_five (not (begins_with_dash key.module)) (is_nonempty key.module) (is_nonempty key.version) (not (has_slash key.module)) (not (has_slash key.version)) h in
     let front = as_module key.module key.version each.1 in
     no_option (joined key) front.0 (front.1 ∙ not_true (begins_with_dash key.module) each.0)
   where
-    as_module : (name version : Word) → is_given name ≡ true → (is_given (name ++ byte "/" ∷ version) ≡ true) × (begins_with_dash (name ++ byte "/" ∷ version) ≡ begins_with_dash name)
+    as_module : (name version : Word) → is_nonempty name ≡ true → (is_nonempty (name ++ byte "/" ∷ version) ≡ true) × (begins_with_dash (name ++ byte "/" ∷ version) ≡ begins_with_dash name)
     as_module [] version e = absurd (true≢false (sym e))
     as_module (c ∷ name) version e = (refl, refl)
 

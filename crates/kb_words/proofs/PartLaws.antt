@@ -6,8 +6,8 @@ use Rattle.kb_world.specs.declared.job.Key.{Key}
 use Rattle.kb_words.specs.declared.command.Command.TheVariants as command
 use Rattle.kb_words.specs.declared.parts.Argument.{Argument}
 use Rattle.kb_words.specs.declared.parts.Argument.TheVariants as argument
-use Rattle.kb_words.specs.Words.{Word, Part, Package, Module, Version, written, is_package, is_part, module_in, version_in, first_bad, if_no_word, if_no_version, Line, ForCommand}
-use Rattle.kb_words.specs.Reading.{package_of, argument_behind, Seen, with_module, with_version, with_key, begun, gone_on, seen_after, whole, line_of_add, ended_add}
+use Rattle.kb_words.specs.Words.{Word, Part, Package, Module, Version, written, is_package, is_line_part, module_in, version_in, first_bad, if_no_word, if_no_version, Line, ForCommand}
+use Rattle.kb_words.specs.Reading.{package_in, argument_behind, Seen, with_module, with_version, with_key, begun, gone_on, seen_after, whole, line_of_add, ended_add}
 use Rattle.kb_words.proofs.PackageLaws.{joined, package_from, package_into, package_no_option, option_is_module, option_is_version}
 
 -- With what was seen before them, these words are parts that name the package whole.
@@ -15,7 +15,7 @@ pub record Completes (name version bad : Option Word) (words : List Word) (line 
   pub parts : List Part
   pub key : Key
   pub are : words ≡ flat_map written parts
-  pub good : list_all is_part parts ≡ true
+  pub good : list_all is_line_part parts ≡ true
   pub module_once : option_to_list name ++ filter_map module_in parts ≡ key.module ∷ []
   pub version_once : option_to_list version ++ filter_map version_in parts ≡ key.version ∷ []
   pub line_is : line ≡ ForCommand (command.Add key) (option_or bad (first_bad parts))
@@ -69,14 +69,14 @@ GoesOn seen word rest line = (next : Seen) × (seen_after seen word ≡ Some nex
 
 -- the first word of a package in one word
 package_goes : (k key : Key) (parts : List Part) (bad : Option Word) (word : Word) (rest : List Word) (line : Line) → word ∷ rest ≡ joined k ∷ flat_map written parts → is_package k ≡ true
-    → list_all is_part parts ≡ true → k.module ∷ filter_map module_in parts ≡ key.module ∷ [] → k.version ∷ filter_map version_in parts ≡ key.version ∷ []
+    → list_all is_line_part parts ≡ true → k.module ∷ filter_map module_in parts ≡ key.module ∷ [] → k.version ∷ filter_map version_in parts ≡ key.version ∷ []
     → line ≡ ForCommand (command.Add key) (option_or bad (option_or (option_or (if_no_word k.module) (if_no_version k.version)) (first_bad parts)))
     → GoesOn (seen_of None None None bad) word rest line
 package_goes k key parts bad word rest line are good goods m v is =
     let at = heads word (joined k) rest (flat_map written parts) are in
     let seen = seen_of None None None bad in (
       with_version (with_module seen k.module) k.version,
-      ap (begun seen word) (ap argument_behind at ∙ package_no_option k good) ∙ ap (with_key seen) (ap package_of at ∙ package_into k good),
+      ap (begun seen word) (ap argument_behind at ∙ package_no_option k good) ∙ ap (with_key seen) (ap package_in at ∙ package_into k good),
       record {
         parts = parts;
         key = key;
@@ -93,11 +93,11 @@ package_goes k key parts bad word rest line are good goods m v is =
     regroup (Some x) b c d = refl
 
 goes_by : (parts : List Part) (key : Key) (name version bad : Option Word) (word : Word) (rest : List Word) (line : Line) → word ∷ rest ≡ flat_map written parts
-    → list_all is_part parts ≡ true → option_to_list name ++ filter_map module_in parts ≡ key.module ∷ [] → option_to_list version ++ filter_map version_in parts ≡ key.version ∷ []
+    → list_all is_line_part parts ≡ true → option_to_list name ++ filter_map module_in parts ≡ key.module ∷ [] → option_to_list version ++ filter_map version_in parts ≡ key.version ∷ []
     → line ≡ ForCommand (command.Add key) (option_or bad (first_bad parts)) → GoesOn (seen_of None name version bad) word rest line
 goes_by [] key name version bad word rest line are good m v is = absurd (no_head word rest are)
 goes_by (Package k ∷ parts) key None None bad word rest line are good m v is =
-    let goods = both (is_package k) (list_all is_part parts) good in
+    let goods = both (is_package k) (list_all is_line_part parts) good in
     package_goes k key parts bad word rest line are goods.0 goods.1 m v is
 goes_by (Package k ∷ parts) key (Some name) version bad word rest line are good m v is = absurd (two_names name k.module key.module (filter_map module_in parts) m)
 goes_by (Package k ∷ parts) key None (Some name) bad word rest line are good m v is = absurd (two_names name k.version key.version (filter_map version_in parts) v)
@@ -144,7 +144,7 @@ parts_go_on seen word rest line follows = by_argument seen.awaited seen.module s
 
 -- ---- a word less
 
-package_comes : (key : Key) (bad : Option Word) (word : Word) (rest : List Word) (line : Line) → package_of word ≡ Some key
+package_comes : (key : Key) (bad : Option Word) (word : Word) (rest : List Word) (line : Line) → package_in word ≡ Some key
     → Completes (Some key.module) (Some key.version) (option_or (option_or bad (if_no_word key.module)) (if_no_version key.version)) rest line
     → Completes None None bad (word ∷ rest) line
 package_comes key bad word rest line is c =
@@ -192,8 +192,8 @@ version_comes name bad word (given ∷ rest) line is c = record {
 follows_as : (a b : Seen) (rest : List Word) (line : Line) → Some a ≡ Some b → FollowsSeen b rest line → FollowsSeen a rest line
 follows_as a b rest line same follows = subst (λ seen. FollowsSeen seen rest line) (sym (same_some a b same)) follows
 
-comes_by : (name version bad : Option Word) (word : Word) (rest : List Word) (line : Line) (it : Option Argument) (found : Option Key) (next : Seen) → argument_behind word ≡ it → package_of word ≡ found
-    → begun (seen_of None name version bad) word it ≡ Some next → with_key (seen_of None name version bad) found ≡ with_key (seen_of None name version bad) (package_of word)
+comes_by : (name version bad : Option Word) (word : Word) (rest : List Word) (line : Line) (it : Option Argument) (found : Option Key) (next : Seen) → argument_behind word ≡ it → package_in word ≡ found
+    → begun (seen_of None name version bad) word it ≡ Some next → with_key (seen_of None name version bad) found ≡ with_key (seen_of None name version bad) (package_in word)
     → FollowsSeen next rest line → Completes name version bad (word ∷ rest) line
 comes_by None version bad word rest line (Some argument.Module) found next ef ep is ek follows =
     module_comes version bad word rest line (option_is_module word ef) (follows_as (seen_of (Some argument.Module) None version bad) next rest line is follows)
@@ -213,7 +213,7 @@ parts_come_from seen next word rest line is follows = by_argument seen.awaited s
   where
     by_argument : (it : Option Argument) (name version bad : Option Word) → gone_on (seen_of it name version bad) word it ≡ Some next → Follows it (seen_of it name version bad) (word ∷ rest) line
     by_argument None name version bad e =
-        comes_by name version bad word rest line (argument_behind word) (package_of word) next refl refl e refl follows
+        comes_by name version bad word rest line (argument_behind word) (package_in word) next refl refl e refl follows
     by_argument (Some argument.Module) name version bad e = follows_as (with_module (seen_of (Some argument.Module) name version bad) word) next rest line e follows
     by_argument (Some argument.Version) name version bad e = follows_as (with_version (seen_of (Some argument.Version) name version bad) word) next rest line e follows
 
@@ -271,7 +271,7 @@ parts_ended seen line follows = by_argument seen.awaited seen.module seen.versio
 abbrev CanComplete : Option Word → Option Word → Option Word → Type 0
 CanComplete name version bad = (words : List Word) × (line : Line) × Completes name version bad words line
 
-by_parts : (parts : List Part) (key : Key) (name version bad : Option Word) → list_all is_part parts ≡ true → option_to_list name ++ filter_map module_in parts ≡ key.module ∷ []
+by_parts : (parts : List Part) (key : Key) (name version bad : Option Word) → list_all is_line_part parts ≡ true → option_to_list name ++ filter_map module_in parts ≡ key.module ∷ []
     → option_to_list version ++ filter_map version_in parts ≡ key.version ∷ [] → CanComplete name version bad
 by_parts parts key name version bad good m v = (
   flat_map written parts,

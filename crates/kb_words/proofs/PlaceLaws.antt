@@ -7,60 +7,60 @@ use Rattle.kb_world.specs.declared.refusal.Refusal.{Refusal}
 use Rattle.kb_world.specs.declared.refusal.Refusal.TheVariants as refusal
 use Rattle.kb_words.specs.declared.command.Command.{Command}
 use Rattle.kb_words.specs.declared.command.Command.TheVariants as command
-use Rattle.kb_words.specs.Words.{Word, Part, Package, Module, Version, module_in, version_in, if_no_word, if_no_version, first_bad, Line, ForCommand, ForArchive, IsLine, CanBegin, IsPlace, IsReading, answer_to, keeps_rules}
-use Rattle.kb_words.specs.Reading.{State, Start, after, line_from, known, read_line, reading}
+use Rattle.kb_words.specs.Words.{Word, Part, Package, Module, Version, module_in, version_in, if_no_word, if_no_version, first_bad, Line, ForCommand, ForArchive, IsLine, CanBegin, IsPlace, IsReadAs, answer_to, names_keep_rules}
+use Rattle.kb_words.specs.Reading.{Progress, Start, after_word, line_from, known, read_line, reading}
 use Rattle.kb_words.proofs.WalkLaws.{line_step, known_step, line_stop, known_stop, line_end, known_end}
 use Rattle.kb_words.proofs.PartLaws.{none_some, same_some}
 use Rattle.kb_words.proofs.LineLaws.{Rest, goes_on, comes_from, ends, ended_so, completed}
 
 -- ---- the line
 
-pub line_into : (words : List Word) (state : State) (line : Line) → Rest state words line → line_from state words ≡ Some line
+pub line_into : (words : List Word) (state : Progress) (line : Line) → Rest state words line → line_from state words ≡ Some line
 line_into [] state line is = line_end state ∙ ended_so state line is
 line_into (word ∷ rest) state line is =
     let more = goes_on state word rest line is in
     line_step state more.0 word rest more.1 ∙ line_into rest more.0 line more.2
 
-pub line_out : (words : List Word) (state : State) (line : Line) → line_from state words ≡ Some line → Rest state words line
+pub line_out : (words : List Word) (state : Progress) (line : Line) → line_from state words ≡ Some line → Rest state words line
 line_out [] state line is = ends state line (sym (line_end state) ∙ is)
-line_out (word ∷ rest) state line is = by_case (after state word) refl (λ next. line_out rest next line)
+line_out (word ∷ rest) state line is = by_case (after_word state word) refl (λ next. line_out rest next line)
   where
-    by_case : (found : Option State) → after state word ≡ found → ((next : State) → line_from next rest ≡ Some line → Rest next rest line) → Rest state (word ∷ rest) line
+    by_case : (found : Option Progress) → after_word state word ≡ found → ((next : Progress) → line_from next rest ≡ Some line → Rest next rest line) → Rest state (word ∷ rest) line
     by_case None e out = absurd (none_some line (sym (line_stop state word rest e) ∙ is))
     by_case (Some next) e out = comes_from state next word rest line e (out next (sym (line_step state next word rest e) ∙ is))
 
 -- ---- the place
 
-abbrev CanGo : State → List Word → Type 0
+abbrev CanGo : Progress → List Word → Type 0
 CanGo state first = (more : List Word) × (line : Line) × Rest state (first ++ more) line
 
-known_within : (words : List Word) (state : State) → known state words ≤ length words
+known_within : (words : List Word) (state : Progress) → known state words ≤ length words
 known_within [] state = let none = known_end state in omega arith
-known_within (word ∷ rest) state = by_case (after state word) refl (known_within rest)
+known_within (word ∷ rest) state = by_case (after_word state word) refl (known_within rest)
   where
-    by_case : (found : Option State) → after state word ≡ found → ((next : State) → known next rest ≤ length rest) → known state (word ∷ rest) ≤ length (word ∷ rest)
+    by_case : (found : Option Progress) → after_word state word ≡ found → ((next : Progress) → known next rest ≤ length rest) → known state (word ∷ rest) ≤ length (word ∷ rest)
     by_case None e few = let none = known_stop state word rest e in omega arith
     by_case (Some next) e few =
         let one = known_step state next word rest e in
         let fewer = few next in
         omega arith
 
-known_can : (words : List Word) (state : State) → CanGo state (take (known state words) words)
+known_can : (words : List Word) (state : Progress) → CanGo state (take (known state words) words)
 known_can [] state = subst (λ n. CanGo state (take n [])) (sym (known_end state)) (completed state)
-known_can (word ∷ rest) state = by_case (after state word) refl (known_can rest)
+known_can (word ∷ rest) state = by_case (after_word state word) refl (known_can rest)
   where
-    by_case : (found : Option State) → after state word ≡ found → ((next : State) → CanGo next (take (known next rest) rest)) → CanGo state (take (known state (word ∷ rest)) (word ∷ rest))
+    by_case : (found : Option Progress) → after_word state word ≡ found → ((next : Progress) → CanGo next (take (known next rest) rest)) → CanGo state (take (known state (word ∷ rest)) (word ∷ rest))
     by_case None e can = subst (λ n. CanGo state (take n (word ∷ rest))) (sym (known_stop state word rest e)) (completed state)
     by_case (Some next) e can =
         let c = can next in
         let more : CanGo state (word ∷ take (known next rest) rest) = (c.0, c.1, comes_from state next word (take (known next rest) rest ++ c.0) c.1 e c.2) in
         subst (λ n. CanGo state (take n (word ∷ rest))) (sym (known_step state next word rest e ∙ one-add (known next rest))) more
 
-known_no_more : (words : List Word) (state : State) → known state words < length words → CanGo state (take (suc (known state words)) words) → ⊥
+known_no_more : (words : List Word) (state : Progress) → known state words < length words → CanGo state (take (suc (known state words)) words) → ⊥
 known_no_more [] state less can = omega arith
-known_no_more (word ∷ rest) state less can = by_case (after state word) refl (known_no_more rest)
+known_no_more (word ∷ rest) state less can = by_case (after_word state word) refl (known_no_more rest)
   where
-    by_case : (found : Option State) → after state word ≡ found → ((next : State) → known next rest < length rest → CanGo next (take (suc (known next rest)) rest) → ⊥) → ⊥
+    by_case : (found : Option Progress) → after_word state word ≡ found → ((next : Progress) → known next rest < length rest → CanGo next (take (suc (known next rest)) rest) → ⊥) → ⊥
     by_case None e stops =
         let at : CanGo state (word ∷ []) = subst (λ n. CanGo state (take (suc n) (word ∷ rest))) (known_stop state word rest e) can in
         let more = goes_on state word at.0 at.1 at.2 in
@@ -104,10 +104,10 @@ one_place words a b p q = by_case (nat_lt p.longest q.longest) (nat_lt q.longest
 
 -- ---- the reading
 
-pub related : (words : List Word) → IsReading words (reading words)
+pub related : (words : List Word) → IsReadAs words (reading words)
 related words = by_case (line_from Start words) refl
   where
-    by_case : (found : Option Line) → line_from Start words ≡ found → IsReading words (read_line (known Start words + 1) found)
+    by_case : (found : Option Line) → line_from Start words ≡ found → IsReadAs words (read_line (known Start words + 1) found)
     by_case None e = inr (known Start words + 1, ((λ line is. none_some line (sym e ∙ line_into words Start line is)), place_known words), refl)
     by_case (Some line) e = inl (line, line_out words Start line e, refl)
 
@@ -118,7 +118,7 @@ no_line words none = by_case (line_from Start words) refl
     by_case None e = e
     by_case (Some line) e = absurd (none line (line_out words Start line e))
 
-pub only : (words : List Word) (answer : Result Command Refusal) → IsReading words answer → answer ≡ reading words
+pub only : (words : List Word) (answer : Result Command Refusal) → IsReadAs words answer → answer ≡ reading words
 only words answer (inl is) = is.2 ∙ sym (ap (read_line (known Start words + 1)) (line_into words Start is.0 is.1))
 only words answer (inr is) =
     is.2 ∙ ap (λ n. Err (refusal.Usage n)) (one_place words is.0 (known Start words + 1) is.1.1 (place_known words))
@@ -165,21 +165,21 @@ alone true true p q = refl
 alone true false p q = q
 alone false b p q = p
 
-keeps : (words : List Word) (it : Command) → IsLine words (ForCommand it None) → keeps_rules it ≡ true
+keeps : (words : List Word) (it : Command) → IsLine words (ForCommand it None) → names_keep_rules it ≡ true
 keeps words command.Help is = refl
 keeps words (command.Add key) is =
     let good = good_names is.1 (sym is.4) in
     let names = is.3 in
     alone (is_word key.module) (is_version key.version) (sym (ap (list_all is_word) names.module_once) ∙ good.0) (sym (ap (list_all is_version) names.version_once) ∙ good.1)
 
-pub named : (words : List Word) (it : Command) → reading words ≡ Ok it → keeps_rules it ≡ true
+pub named : (words : List Word) (it : Command) → reading words ≡ Ok it → names_keep_rules it ≡ true
 named words it is = by_case (line_from Start words) refl is
   where
-    by_line : (line : Line) → IsLine words line → answer_to line ≡ Ok it → keeps_rules it ≡ true
-    by_line (ForCommand other None) line e = let same : other ≡ it = cc in ap keeps_rules (sym same) ∙ keeps words other line
+    by_line : (line : Line) → IsLine words line → answer_to line ≡ Ok it → names_keep_rules it ≡ true
+    by_line (ForCommand other None) line e = let same : other ≡ it = cc in ap names_keep_rules (sym same) ∙ keeps words other line
     by_line (ForCommand other (Some name)) line e = cc
     by_line (ForArchive action) line e = cc
 
-    by_case : (found : Option Line) → line_from Start words ≡ found → read_line (known Start words + 1) found ≡ Ok it → keeps_rules it ≡ true
+    by_case : (found : Option Line) → line_from Start words ≡ found → read_line (known Start words + 1) found ≡ Ok it → names_keep_rules it ≡ true
     by_case None e is = cc
     by_case (Some line) e is = by_line line (line_out words Start line e) is

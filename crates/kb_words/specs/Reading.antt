@@ -10,13 +10,13 @@ use Rattle.kb_words.specs.declared.command.Command.{Command}
 use Rattle.kb_words.specs.declared.command.Command.TheVariants as command
 use Rattle.kb_words.specs.declared.parts.Argument.{Argument}
 use Rattle.kb_words.specs.declared.parts.Argument.TheVariants as argument
-use Rattle.kb_words.specs.Words.{Word, has_slash, begins_with_dash, is_given, if_no_word, if_no_version, is_archive, Line, ForCommand, ForArchive, answer_to}
+use Rattle.kb_words.specs.Words.{Word, has_slash, begins_with_dash, is_nonempty, if_no_word, if_no_version, is_archive, Line, ForCommand, ForArchive, answer_to}
 
 -- the package that a word is, split at its first `/`
-abbrev pub package_of : Word → Option Key
-package_of word =
+abbrev pub package_in : Word → Option Key
+package_in word =
     let key : Key = record { «module» = before_first (λ c. nat_eq c (byte "/")) word; version = after_first (λ c. nat_eq c (byte "/")) word } in
-    cond (not (begins_with_dash key.module) && is_given key.module && is_given key.version && not (has_slash key.version)) (Some key) None
+    cond (not (begins_with_dash key.module) && is_nonempty key.module && is_nonempty key.version && not (has_slash key.version)) (Some key) None
 
 -- what the next word is, where this one is an option
 abbrev pub argument_behind : Word → Option Argument
@@ -53,7 +53,7 @@ with_key seen None = None
 with_key seen (Some key) = cond (is_some seen.module) None (cond (is_some seen.version) None (Some (with_version (with_module seen key.module) key.version)))
 
 abbrev pub with_package : Seen → Word → Option Seen
-with_package seen word = with_key seen (package_of word)
+with_package seen word = with_key seen (package_in word)
 
 -- with the first word of a part
 abbrev pub begun : Seen → Word → Option Argument → Option Seen
@@ -70,26 +70,26 @@ abbrev pub seen_after : Seen → Word → Option Seen
 seen_after seen word = gone_on seen word seen.awaited
 
 -- Where the words read so far end.
-pub data State : Type 0 where
-  Start : State
-  Help : State
-  Dkms : State
-  Archive : Word → State
-  Add : Seen → State
+pub data Progress : Type 0 where
+  Start : Progress
+  Help : Progress
+  Dkms : Progress
+  Archive : Word → Progress
+  Add : Seen → Progress
 
-abbrev pub after_start : Word → Option State
+abbrev pub after_start : Word → Option Progress
 after_start word = cond (bytes_eq word (codes "help")) (Some Help) (cond (bytes_eq word (codes "dkms")) (Some Dkms) None)
 
-abbrev pub after_dkms : Word → Option State
+abbrev pub after_dkms : Word → Option Progress
 after_dkms word = cond (bytes_eq word (codes "add")) (Some (Add nothing)) (cond (is_archive word) (Some (Archive word)) None)
 
 -- with one word more, where some command line goes on so
-abbrev pub after : State → Word → Option State
-after Start word = after_start word
-after Help word = None
-after Dkms word = after_dkms word
-after (Archive action) word = Some (Archive action)
-after (Add seen) word = option_map Add (seen_after seen word)
+abbrev pub after_word : Progress → Word → Option Progress
+after_word Start word = after_start word
+after_word Help word = None
+after_word Dkms word = after_dkms word
+after_word (Archive action) word = Some (Archive action)
+after_word (Add seen) word = option_map Add (seen_after seen word)
 
 -- the package of the parts, where the words may end here
 abbrev pub whole : Option Argument → Option Word → Option Word → Option Key
@@ -107,30 +107,30 @@ abbrev pub ended_add : Seen → Option Line
 ended_add seen = line_of_add seen.bad (package_in seen)
 
 -- the line that the words are, where they end here
-abbrev pub ended : State → Option Line
+abbrev pub ended : Progress → Option Line
 ended Start = None
 ended Help = Some (ForCommand command.Help None)
 ended Dkms = None
 ended (Archive action) = Some (ForArchive action)
 ended (Add seen) = ended_add seen
 
-abbrev pub line_behind : (State → Option Line) → Option State → Option Line
+abbrev pub line_behind : (Progress → Option Line) → Option Progress → Option Line
 line_behind line None = None
 line_behind line (Some next) = line next
 
 -- the line that the words are from here on
-unfoldable pub line_from : State → List Word → Option Line
+unfoldable pub line_from : Progress → List Word → Option Line
 line_from state [] = ended state
-line_from state (word ∷ rest) = line_behind (λ next. line_from next rest) (after state word)
+line_from state (word ∷ rest) = line_behind (λ next. line_from next rest) (after_word state word)
 
-abbrev pub known_behind : (State → ℕ) → Option State → ℕ
+abbrev pub known_behind : (Progress → ℕ) → Option Progress → ℕ
 known_behind count None = 0
 known_behind count (Some next) = 1 + count next
 
 -- how many of the words some command line has from here on
-unfoldable pub known : State → List Word → ℕ
+unfoldable pub known : Progress → List Word → ℕ
 known state [] = 0
-known state (word ∷ rest) = known_behind (λ next. known next rest) (after state word)
+known state (word ∷ rest) = known_behind (λ next. known next rest) (after_word state word)
 
 abbrev pub read_line : ℕ → Option Line → Result Command Refusal
 read_line place None = Err (refusal.Usage place)

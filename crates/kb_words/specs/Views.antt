@@ -3,10 +3,10 @@ use Rattle.std.specs.Prelude.{Option, option_map}
 use Rattle.std.specs.Borrow.{Bor}
 use Rattle.kb_world.specs.declared.job.Key.{Key}
 use Rattle.kb_words.specs.Words.{Word}
-use Rattle.kb_words.specs.Reading.{Seen, State, Start, Help, Dkms, Archive, Add}
+use Rattle.kb_words.specs.Reading.{Seen, Progress, Start, Help, Dkms, Archive, Add}
 use Rattle.kb_words.specs.declared.parts.Seen as code
-use Rattle.kb_words.specs.declared.state.State as code_state
-use Rattle.kb_words.specs.declared.state.State.TheVariants as states
+use Rattle.kb_words.specs.declared.progress.Progress as code_state
+use Rattle.kb_words.specs.declared.progress.Progress.TheVariants as states
 
 abbrev pub view_word : Option (Bor Word) → Option Word
 view_word o = option_map (λ (word : Bor Word). word.now) o
@@ -17,7 +17,7 @@ package_view o = option_map (λ (names : Bor Word × Bor Word). record { «modul
 abbrev pub view_seen : code.Seen → Seen
 view_seen seen = record { awaited = seen.awaited; «module» = view_word seen.module; version = view_word seen.version; bad = view_word seen.bad }
 
-abbrev pub view_state : code_state.State → State
+abbrev pub view_state : code_state.Progress → Progress
 view_state states.Start = Start
 view_state states.Help = Help
 view_state states.Dkms = Dkms

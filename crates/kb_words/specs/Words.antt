@@ -23,9 +23,9 @@ abbrev pub begins_with_dash : Word → Bool
 begins_with_dash [] = false
 begins_with_dash (c ∷ rest) = nat_eq c (byte "-")
 
-abbrev pub is_given : Word → Bool
-is_given [] = false
-is_given (c ∷ rest) = true
+abbrev pub is_nonempty : Word → Bool
+is_nonempty [] = false
+is_nonempty (c ∷ rest) = true
 
 -- What stands behind an action, in one word or two.
 pub data Part : Type 0 where
@@ -44,13 +44,13 @@ written (Version name) = codes "-v" ∷ name ∷ []
 -- one word with one `/`, which stands at no end, and no dash in front
 abbrev pub is_package : Key → Bool
 is_package key =
-    not (begins_with_dash key.module) && is_given key.module && is_given key.version && not (has_slash key.module) && not (has_slash key.version)
+    not (begins_with_dash key.module) && is_nonempty key.module && is_nonempty key.version && not (has_slash key.module) && not (has_slash key.version)
 
 -- the word behind an option is its argument, whatever it is, also an empty one
-abbrev pub is_part : Part → Bool
-is_part (Package key) = is_package key
-is_part (Module name) = true
-is_part (Version name) = true
+abbrev pub is_line_part : Part → Bool
+is_line_part (Package key) = is_package key
+is_line_part (Module name) = true
+is_line_part (Version name) = true
 
 -- the module, and the version, that a part names
 abbrev pub module_in : Part → Option Word
@@ -84,7 +84,7 @@ first_bad (part ∷ rest) = option_or (bad_in part) (first_bad rest)
 -- The words are these parts, in any order, which name the package's module once and its version once.
 pub record NamesPackage (words : List Word) (parts : List Part) (key : Key) : Type 0 where
   pub are : words ≡ flat_map written parts
-  pub good : list_all is_part parts ≡ true
+  pub good : list_all is_line_part parts ≡ true
   pub module_once : filter_map module_in parts ≡ key.module ∷ []
   pub version_once : filter_map version_in parts ≡ key.version ∷ []
 
@@ -133,10 +133,10 @@ abbrev pub IsUsage : List Word → ℕ → Type 0
 IsUsage words place = ((line : Line) → IsLine words line → ⊥) × IsPlace words place
 
 -- How words are read: as the command line that they are, or refused as none.
-abbrev pub IsReading : List Word → Result Command Refusal → Type 0
-IsReading words answer = ((line : Line) × IsLine words line × (answer ≡ answer_to line)) ⊎ ((place : ℕ) × IsUsage words place × (answer ≡ Err (refusal.Usage place)))
+abbrev pub IsReadAs : List Word → Result Command Refusal → Type 0
+IsReadAs words answer = ((line : Line) × IsLine words line × (answer ≡ answer_to line)) ⊎ ((place : ℕ) × IsUsage words place × (answer ≡ Err (refusal.Usage place)))
 
 -- the names in a command keep their rules
-abbrev pub keeps_rules : Command → Bool
-keeps_rules command.Help = true
-keeps_rules (command.Add key) = is_key key
+abbrev pub names_keep_rules : Command → Bool
+names_keep_rules command.Help = true
+names_keep_rules (command.Add key) = is_key key

@@ -5,8 +5,8 @@ mod command;
 mod laws;
 mod package;
 mod parts;
+mod progress;
 mod read;
-mod state;
 #[cfg(test)]
 mod tests;
 

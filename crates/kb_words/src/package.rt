@@ -1,7 +1,7 @@
 // A package in one word.
 ghost use Rattle.std.specs.Prelude.{◌≡◌, Some, None, MatchOption};
 ghost use Rattle.kb_words.specs.Words as spec;
-ghost use Rattle.kb_words.specs.Reading.{package_of};
+ghost use Rattle.kb_words.specs.Reading.{package_in};
 
 fn has_slash(text: &str) -> bool
     ensures { result ≡ spec.has_slash text.now }
@@ -18,19 +18,19 @@ fn begins_with_dash(text: &str) -> bool
     }
 }
 
-fn is_given(text: &str) -> bool
-    ensures { result ≡ spec.is_given text.now }
+fn is_nonempty(text: &str) -> bool
+    ensures { result ≡ spec.is_nonempty text.now }
 {
     !text.is_empty()
 }
 
 /// The module and the version that the word names, where it names a package.
 pub fn split_package(word: &str) -> Option<(&str, &str)>
-    ensures { MatchOption result (package_of word.now ≡ None)
-        (λ names. package_of word.now ≡ Some (record { «module» = names.0.now; version = names.1.now })) }
+    ensures { MatchOption result (package_in word.now ≡ None)
+        (λ names. package_in word.now ≡ Some (record { «module» = names.0.now; version = names.1.now })) }
 {
     let (module, version) = word.split_once('/')?;
-    let named = !begins_with_dash(module) && is_given(module) && is_given(version);
+    let named = !begins_with_dash(module) && is_nonempty(module) && is_nonempty(version);
     if named && !has_slash(version) {
         Some((module, version))
     } else {

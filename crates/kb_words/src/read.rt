@@ -4,7 +4,7 @@ ghost use Rattle.kb_world.specs.Read.{IsRead};
 ghost use Rattle.kb_words.specs.Reading.{reading};
 
 use crate::command::Command;
-use crate::state::{State, usage};
+use crate::progress::{Progress, usage};
 use kb_world::{Host, Stop, Text};
 use std::alloc::Global;
 
@@ -21,7 +21,7 @@ fn place_of(words: &[Text], rest: &[Text]) -> u64
 pub fn read_words(alloc: Global, words: &[Text], _host: &Host) -> Result<Command, Stop>
     ensures { IsRead result (reading words.now) }
 {
-    let mut state = State::Start;
+    let mut state = Progress::Start;
     let mut rest = words;
     while let Some((word, behind)) = rest.split_first() {
         let Some(next) = state.after(word.as_str()) else {

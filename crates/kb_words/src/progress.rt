@@ -14,7 +14,7 @@ use std::alloc::Global;
 
 /// Where the words read so far end.
 #[derive(Clone, Copy, Debug)]
-pub enum State<'a> {
+pub enum Progress<'a> {
     Start,
     Help,
     Dkms,
@@ -36,25 +36,25 @@ fn is_archive(word: &str) -> bool
         || word == "mkkmp"
 }
 
-fn after_start(word: &str) -> Option<State<'_>>
+fn after_start(word: &str) -> Option<Progress<'_>>
     ensures { option_map view_state result ≡ spec.after_start word.now }
 {
     if word == "help" {
-        Some(State::Help)
+        Some(Progress::Help)
     } else if word == "dkms" {
-        Some(State::Dkms)
+        Some(Progress::Dkms)
     } else {
         None
     }
 }
 
-fn after_dkms(word: &str) -> Option<State<'_>>
+fn after_dkms(word: &str) -> Option<Progress<'_>>
     ensures { option_map view_state result ≡ spec.after_dkms word.now }
 {
     if word == "add" {
-        Some(State::Add(Seen::nothing()))
+        Some(Progress::Add(Seen::nothing()))
     } else if is_archive(word) {
-        Some(State::Archive(word))
+        Some(Progress::Archive(word))
     } else {
         None
     }
@@ -84,17 +84,17 @@ fn end_of_add(alloc: Global, seen: Seen<'_>, place: u64) -> Result<Command, Stop
     Ok(Command::Add { key })
 }
 
-impl<'a> State<'a> {
+impl<'a> Progress<'a> {
     /// With one word more, where some command line goes on so.
     pub fn after(self, word: &'a str) -> Option<Self>
-        ensures { option_map view_state result ≡ spec.after (view_state self.entry) word.now }
+        ensures { option_map view_state result ≡ spec.after_word (view_state self.entry) word.now }
     {
         match self {
-            State::Start => after_start(word),
-            State::Help => None,
-            State::Dkms => after_dkms(word),
-            State::Archive(_) => Some(self),
-            State::Add(seen) => Some(State::Add(seen.after(word)?)),
+            Progress::Start => after_start(word),
+            Progress::Help => None,
+            Progress::Dkms => after_dkms(word),
+            Progress::Archive(_) => Some(self),
+            Progress::Add(seen) => Some(Progress::Add(seen.after(word)?)),
         }
     }
 
@@ -103,12 +103,12 @@ impl<'a> State<'a> {
         ensures { IsRead result (spec.read_line place (spec.ended (view_state self.entry))) }
     {
         match self {
-            State::Start | State::Dkms => Err(usage(place)),
-            State::Help => Ok(Command::Help),
-            State::Archive(word) => Err(Stop::Refused(Refusal::Archive {
+            Progress::Start | Progress::Dkms => Err(usage(place)),
+            Progress::Help => Ok(Command::Help),
+            Progress::Archive(word) => Err(Stop::Refused(Refusal::Archive {
                 word: Text::of(alloc, word)?,
             })),
-            State::Add(seen) => end_of_add(alloc, seen, place),
+            Progress::Add(seen) => end_of_add(alloc, seen, place),
         }
     }
 }
