@@ -1,5 +1,5 @@
 // What a world reads of the system's files. A path is its text, which begins with `/`.
-ghost use Rattle.std.specs.Prelude.{◌≡◌, ◌≢◌, ◌⊎◌, ◌↔◌, ℕ, IfOk, IsErr, IsTrue};
+ghost use Rattle.std.specs.Prelude.{◌≡◌, ◌≢◌, ◌⊎◌, ◌↔◌, ℕ, IfErr, IfOk, IsErr, IsTrue};
 ghost use Rattle.std.specs.List.{list_all};
 ghost use Rattle.std.specs.IoError.{error_kind};
 ghost use Rattle.std.specs.Fs.{metadata_len, metadata_mode, file_type, IsDir, IsFile, IsSymlink};
@@ -45,6 +45,8 @@ fn kind_told<R: Files>(rt: &R, path: &str, metadata: &Metadata) -> io::Result<Ki
     ensures file_to_count { IsFile (file_type metadata.now)
         → IfOk result (λ kind. (len : ℕ) × (kind ≡ Kind.File len (owner_executes (metadata_mode metadata.now)))) }
     ensures other { ¬ IsDir (file_type metadata.now) → ¬ IsSymlink (file_type metadata.now) → ¬ IsFile (file_type metadata.now) → IsErr result }
+    ensures no_want { ¬ IsDir (file_type metadata.now) → ¬ IsSymlink (file_type metadata.now) → ¬ IsFile (file_type metadata.now)
+        → IfErr result (λ error. error_kind error ≡ ErrorKind.Unsupported) }
 {
     if metadata.is_dir() {
         Ok(Kind::Dir)

@@ -1,5 +1,7 @@
 // The names of a directory, as the system lists them.
-ghost use Rattle.std.specs.Prelude.{◌≡◌, IfOk, IsTrue, IsPermutation, map, ◌==◌};
+ghost use Rattle.std.specs.Prelude.{◌≡◌, ◌↔◌, IfErr, IfOk, IsTrue, IsPermutation, Ok, false, map, ◌==◌};
+ghost use Rattle.std.specs.IoError.{error_kind};
+ghost use Rattle.std.specs.Str.{IsUtf8};
 ghost use Rattle.std.specs.List.{list_all, slice_split};
 ghost use Rattle.kb_world.specs.Names.{is_name};
 ghost use Rattle.kb_real.specs.Listing.{is_entry, listed_names, Rises};
@@ -27,6 +29,8 @@ fn is_entry(part: &[u8]) -> bool
 fn name_of(alloc: Global, entry: &[u8]) -> io::Result<Text>
     ensures name { IfOk result (λ name. name ≡ entry.now) }
     ensures named { IfOk result (λ name. IsTrue (is_name name)) }
+    ensures bad { is_name entry.now ≡ false → IfErr result (λ error. error_kind error ≡ ErrorKind.InvalidFilename) }
+    ensures no_text { ¬ IsUtf8 entry.now → IfErr result (λ error. error_kind error ≡ ErrorKind.InvalidFilename) }
 {
     match str::from_utf8(entry) {
         Ok(text) if is_name(text) => Ok(Text::of(alloc, text)?),
@@ -49,7 +53,7 @@ fn names_of(alloc: Global, parts: &[&[u8]]) -> io::Result<Vec<Text>>
 }
 
 fn rises(names: &[Text]) -> bool
-    ensures { IsTrue result → Rises names.now }
+    ensures { IsTrue result ↔ Rises names.now }
 {
     for next in 1..names.len() {
         if names[next - 1] >= names[next] {
@@ -57,6 +61,20 @@ fn rises(names: &[Text]) -> bool
         }
     }
     true
+}
+
+// The names, where none stands there twice.
+fn each_once(names: Vec<Text>) -> io::Result<Vec<Text>>
+    ensures once { Rises names.items → result ≡ Ok names }
+    ensures twice { ¬ Rises names.items → IfErr result (λ error. error_kind error ≡ ErrorKind.InvalidData) }
+    ensures kept { IfOk result (λ kept. kept ≡ names) }
+    ensures rises { IfOk result (λ kept. Rises kept.items) }
+{
+    if rises(&names) {
+        Ok(names)
+    } else {
+        Err(io::Error::from(ErrorKind::InvalidData))
+    }
 }
 
 /// The names of a listing, in which each ends with a NUL, by bytes. A name that stands there twice is an error, as is
@@ -69,8 +87,6 @@ pub fn names_in(alloc: Global, listing: &[u8]) -> io::Result<Vec<Text>>
     let parts = parts_of(alloc, listing)?;
     let mut names = names_of(alloc, &parts)?;
     names.sort()?;
-    if !rises(&names) {
-        return Err(io::Error::from(ErrorKind::InvalidData));
-    }
+    let names = each_once(names)?;
     Ok(names)
 }

@@ -1,6 +1,7 @@
 // Readers read to their end and pieces written whole, in a number of calls that is bounded.
 ghost use Rattle.std.specs.Prelude.{◌≡◌, ℕ, length, take, IfOk, IfSome, OnOk, OnErr};
 ghost use Rattle.std.specs.Io.Iter.{u64_saturate};
+ghost use Rattle.std.specs.IoError.{error_kind};
 ghost use Rattle.std.specs.Io.KnownBytes.{Appends};
 ghost use Rattle.kb_real.specs.Pieces.{ReadsPiece};
 
@@ -15,8 +16,10 @@ pub const MOST_CALLS: u64 = 0x1_0000_0000;
 /// How many bytes one read asks for.
 pub const READ_SIZE: usize = 4096;
 
-/// The error of a loop that gave up.
-pub fn given_up() -> io::Error {
+/// The error of a loop that gave up. It is no want of memory, so a world tells it as a fault.
+pub fn given_up() -> io::Error
+    ensures { error_kind result ≡ ErrorKind.TimedOut }
+{
     io::Error::from(ErrorKind::TimedOut)
 }
 

@@ -10,7 +10,7 @@ use Rattle.kb_world.specs.declared.job.Key.{Key}
 use Rattle.kb_words.specs.declared.parts.Argument.{Argument}
 use Rattle.kb_words.specs.declared.parts.Argument.TheVariants as argument
 use Rattle.kb_words.specs.Words.{Word, has_slash, begins_with_dash, is_nonempty, is_package}
-use Rattle.kb_words.specs.Reading.{package_in, argument_behind}
+use Rattle.kb_words.specs.Reading.{package_split, argument_behind}
 
 abbrev pub joined : Key → Word
 joined key = key.module ++ byte "/" ∷ key.version
@@ -89,7 +89,7 @@ slash_within word h =
 
 -- ---- packages
 
-pub package_from : (word : Word) (key : Key) → package_in word ≡ Some key → (is_package key ≡ true) × (word ≡ joined key)
+pub package_from : (word : Word) (key : Key) → package_split word ≡ Some key → (is_package key ≡ true) × (word ≡ joined key)
 package_from word key h =
     let front : Word = before_first is_slash word in
     let back : Word = after_first is_slash word in
@@ -101,7 +101,7 @@ package_from word key h =
     let is : is_package split ≡ true = (λ i. each.0 i && each.1 i && each.2 i && not (plain_front word i) && each.3 i) in
     (ap is_package (sym got.1) ∙ is, split_at_first is_slash word 0 within ∙ ap (λ c. front ++ c ∷ back) slash ∙ ap joined got.1)
 
-pub package_into : (key : Key) → is_package key ≡ true → package_in (joined key) ≡ Some key
+pub package_into : (key : Key) → is_package key ≡ true → package_split (joined key) ≡ Some key
 package_into key h =
     let each = all_five (not (begins_with_dash key.module)) (is_nonempty key.module) (is_nonempty key.version) (not (has_slash key.module)) (not (has_slash key.version)) h in
     let one = not_true (has_slash key.module) each.3 in

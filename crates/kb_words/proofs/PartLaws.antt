@@ -7,7 +7,7 @@ use Rattle.kb_words.specs.declared.command.Command.TheVariants as command
 use Rattle.kb_words.specs.declared.parts.Argument.{Argument}
 use Rattle.kb_words.specs.declared.parts.Argument.TheVariants as argument
 use Rattle.kb_words.specs.Words.{Word, Part, Package, Module, Version, written, is_package, is_line_part, module_in, version_in, first_bad, if_no_word, if_no_version, Line, ForCommand}
-use Rattle.kb_words.specs.Reading.{package_in, argument_behind, Seen, with_module, with_version, with_key, begun, gone_on, seen_after, whole, line_of_add, ended_add}
+use Rattle.kb_words.specs.Reading.{package_split, argument_behind, Seen, with_module, with_version, with_key, begun, gone_on, seen_after, whole, line_of_add, ended_add}
 use Rattle.kb_words.proofs.PackageLaws.{joined, package_from, package_into, package_no_option, option_is_module, option_is_version}
 
 -- With what was seen before them, these words are parts that name the package whole.
@@ -76,7 +76,7 @@ package_goes k key parts bad word rest line are good goods m v is =
     let at = heads word (joined k) rest (flat_map written parts) are in
     let seen = seen_of None None None bad in (
       with_version (with_module seen k.module) k.version,
-      ap (begun seen word) (ap argument_behind at ∙ package_no_option k good) ∙ ap (with_key seen) (ap package_in at ∙ package_into k good),
+      ap (begun seen word) (ap argument_behind at ∙ package_no_option k good) ∙ ap (with_key seen) (ap package_split at ∙ package_into k good),
       record {
         parts = parts;
         key = key;
@@ -144,7 +144,7 @@ parts_go_on seen word rest line follows = by_argument seen.awaited seen.module s
 
 -- ---- a word less
 
-package_comes : (key : Key) (bad : Option Word) (word : Word) (rest : List Word) (line : Line) → package_in word ≡ Some key
+package_comes : (key : Key) (bad : Option Word) (word : Word) (rest : List Word) (line : Line) → package_split word ≡ Some key
     → Completes (Some key.module) (Some key.version) (option_or (option_or bad (if_no_word key.module)) (if_no_version key.version)) rest line
     → Completes None None bad (word ∷ rest) line
 package_comes key bad word rest line is c =
@@ -192,8 +192,8 @@ version_comes name bad word (given ∷ rest) line is c = record {
 follows_as : (a b : Seen) (rest : List Word) (line : Line) → Some a ≡ Some b → FollowsSeen b rest line → FollowsSeen a rest line
 follows_as a b rest line same follows = subst (λ seen. FollowsSeen seen rest line) (sym (same_some a b same)) follows
 
-comes_by : (name version bad : Option Word) (word : Word) (rest : List Word) (line : Line) (it : Option Argument) (found : Option Key) (next : Seen) → argument_behind word ≡ it → package_in word ≡ found
-    → begun (seen_of None name version bad) word it ≡ Some next → with_key (seen_of None name version bad) found ≡ with_key (seen_of None name version bad) (package_in word)
+comes_by : (name version bad : Option Word) (word : Word) (rest : List Word) (line : Line) (it : Option Argument) (found : Option Key) (next : Seen) → argument_behind word ≡ it → package_split word ≡ found
+    → begun (seen_of None name version bad) word it ≡ Some next → with_key (seen_of None name version bad) found ≡ with_key (seen_of None name version bad) (package_split word)
     → FollowsSeen next rest line → Completes name version bad (word ∷ rest) line
 comes_by None version bad word rest line (Some argument.Module) found next ef ep is ek follows =
     module_comes version bad word rest line (option_is_module word ef) (follows_as (seen_of (Some argument.Module) None version bad) next rest line is follows)
@@ -213,7 +213,7 @@ parts_come_from seen next word rest line is follows = by_argument seen.awaited s
   where
     by_argument : (it : Option Argument) (name version bad : Option Word) → gone_on (seen_of it name version bad) word it ≡ Some next → Follows it (seen_of it name version bad) (word ∷ rest) line
     by_argument None name version bad e =
-        comes_by name version bad word rest line (argument_behind word) (package_in word) next refl refl e refl follows
+        comes_by name version bad word rest line (argument_behind word) (package_split word) next refl refl e refl follows
     by_argument (Some argument.Module) name version bad e = follows_as (with_module (seen_of (Some argument.Module) name version bad) word) next rest line e follows
     by_argument (Some argument.Version) name version bad e = follows_as (with_version (seen_of (Some argument.Version) name version bad) word) next rest line e follows
 

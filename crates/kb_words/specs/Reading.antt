@@ -13,8 +13,8 @@ use Rattle.kb_words.specs.declared.parts.Argument.TheVariants as argument
 use Rattle.kb_words.specs.Words.{Word, has_slash, begins_with_dash, is_nonempty, if_no_word, if_no_version, is_archive, Line, ForCommand, ForArchive, answer_to}
 
 -- the package that a word is, split at its first `/`
-abbrev pub package_in : Word → Option Key
-package_in word =
+abbrev pub package_split : Word → Option Key
+package_split word =
     let key : Key = record { «module» = before_first (λ c. nat_eq c (byte "/")) word; version = after_first (λ c. nat_eq c (byte "/")) word } in
     cond (not (begins_with_dash key.module) && is_nonempty key.module && is_nonempty key.version && not (has_slash key.version)) (Some key) None
 
@@ -53,7 +53,7 @@ with_key seen None = None
 with_key seen (Some key) = cond (is_some seen.module) None (cond (is_some seen.version) None (Some (with_version (with_module seen key.module) key.version)))
 
 abbrev pub with_package : Seen → Word → Option Seen
-with_package seen word = with_key seen (package_in word)
+with_package seen word = with_key seen (package_split word)
 
 -- with the first word of a part
 abbrev pub begun : Seen → Word → Option Argument → Option Seen

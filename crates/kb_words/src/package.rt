@@ -1,7 +1,7 @@
 // A package in one word.
 ghost use Rattle.std.specs.Prelude.{◌≡◌, Some, None, MatchOption};
 ghost use Rattle.kb_words.specs.Words as spec;
-ghost use Rattle.kb_words.specs.Reading.{package_in};
+ghost use Rattle.kb_words.specs.Reading.{package_split};
 
 fn has_slash(text: &str) -> bool
     ensures { result ≡ spec.has_slash text.now }
@@ -26,8 +26,8 @@ fn is_nonempty(text: &str) -> bool
 
 /// The module and the version that the word names, where it names a package.
 pub fn split_package(word: &str) -> Option<(&str, &str)>
-    ensures { MatchOption result (package_in word.now ≡ None)
-        (λ names. package_in word.now ≡ Some (record { «module» = names.0.now; version = names.1.now })) }
+    ensures { MatchOption result (package_split word.now ≡ None)
+        (λ names. package_split word.now ≡ Some (record { «module» = names.0.now; version = names.1.now })) }
 {
     let (module, version) = word.split_once('/')?;
     let named = !begins_with_dash(module) && is_nonempty(module) && is_nonempty(version);
