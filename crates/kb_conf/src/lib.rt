@@ -31,10 +31,3 @@ pub use load::load_conf;
 pub use read::read_conf;
 pub use reading::{ReadError, read_text, without_returns};
 pub use table::{Assignment, Table};
-
-#[cfg(test)]
-mod conf_tests;
-#[cfg(test)]
-mod given_tests;
-#[cfg(test)]
-mod tests;

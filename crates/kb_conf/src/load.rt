@@ -87,7 +87,7 @@ fn require_match(conf: Conf, asked: Option<&Key>) -> Result<Conf, Stop>
 }
 
 // The conf that the bytes are, where it is of the package asked for.
-pub(crate) fn read_for(
+fn read_for(
     alloc: Global,
     bytes: &[u8],
     asked: Option<&Key>,

@@ -6,6 +6,3 @@ mod places;
 mod scripts;
 
 pub use adding::add;
-
-#[cfg(test)]
-mod tests;

@@ -6,8 +6,6 @@ mod failures;
 mod nodes;
 mod script;
 mod sink;
-#[cfg(test)]
-mod tests;
 mod world;
 
 pub use sink::MemorySink;

@@ -13,8 +13,6 @@ mod private;
 mod read;
 mod store;
 mod targets;
-#[cfg(test)]
-mod tests;
 mod walking;
 
 pub use laws::{a_store_tells_its_parts, the_lists_of_a_store_rise};

@@ -7,8 +7,6 @@ mod laws;
 mod serve;
 mod setting;
 mod tell;
-#[cfg(test)]
-mod tests;
 
 pub use call::{run, start};
 pub use end::End;

@@ -86,6 +86,3 @@ pub fn version_order_laws()
     ensures total { IsTotalOrder version_order }
     ensures exact { CmpEqualImpliesEq version_order }
 {}
-
-#[cfg(test)]
-mod tests;

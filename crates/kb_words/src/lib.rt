@@ -7,8 +7,6 @@ mod package;
 mod parts;
 mod progress;
 mod read;
-#[cfg(test)]
-mod tests;
 
 pub use command::Command;
 pub use laws::words_are_their_command_line;

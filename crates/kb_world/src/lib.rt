@@ -14,8 +14,6 @@ mod sequence;
 mod sink;
 mod stop;
 mod store_laws;
-#[cfg(test)]
-mod tests;
 mod text;
 mod tree;
 mod whose;

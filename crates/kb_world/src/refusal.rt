@@ -179,6 +179,3 @@ pub fn bad_boot_line() -> &'static str
 {
     "kmodboot: bad KMODBOOT_BOOT\n"
 }
-
-#[cfg(test)]
-mod tests;
