@@ -161,8 +161,8 @@ runs host words old_world new_world old new report answer result s t =
       fault = λ is. let f = tells_fault report old new result answer t.ends is in record { rose = s.cause.rose f.0; out = f.1; err = f.2 };
       sink_fault = λ is. (tells_sink report old new result answer t.ends is).rose;
       complete = λ steady. (
-        tells_steady report old new result answer (λ failed. failed.unsteady steady.out steady.err) (λ is. s.cause.never steady.world is) t.ends,
-        record { world = s.cause.steady steady.world; out = t.go_on.out_steady steady.out; err = t.go_on.err_steady steady.err },
+        tells_steady report old new result answer (λ failed. failed.unsteady steady.out steady.err) (λ is. s.cause.never steady.told steady.world is) t.ends,
+        record { told = s.lasts.told ∙ steady.told; world = s.cause.steady steady.world; out = t.go_on.out_steady steady.out; err = t.go_on.err_steady steady.err },
       );
       no_setting = tells_no_setting report old new result answer t.ends;
       counts = record { world = s.cause.later; out = t.go_on.out_later; err = t.go_on.err_later };

@@ -102,6 +102,7 @@ IsAnswerOrWant end.BadRoot = ⊥
 IsAnswerOrWant end.BadBoot = ⊥
 
 pub record AreSteady (outside : Outside) : Type 0 where
+  pub told : IsTrue (is_some outside.world.tree)
   pub world : IsTrue outside.world.steady
   pub out : IsTrue outside.out.steady
   pub err : IsTrue outside.err.steady
@@ -126,7 +127,7 @@ pub record Runs (host : Host) (words : List Word) (old new : Outside) (result : 
   pub fault : result ≡ end.Fault → IsFaulted old new
   -- and with a sink's fault only where a sink's count rose
   pub sink_fault : result ≡ end.SinkFault → Rose old.out.faults new.out.faults ⊎ Rose old.err.faults new.err.faults
-  -- a world and sinks that are steady give an answer or want of memory
+  -- a steady world that tells its tree and steady sinks give an answer or want of memory
   pub complete : AreSteady old → IsAnswerOrWant result × AreSteady new
   -- the setting is none of its concern
   pub no_setting : (result ≡ end.BadRoot → ⊥) × (result ≡ end.BadBoot → ⊥)
