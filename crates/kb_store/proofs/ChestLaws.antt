@@ -166,10 +166,10 @@ kept_of tree base [] = refl
 kept_of tree base (path ∷ paths) = ap (λ l. drop (length base) path ∷ l) (kept_of tree base paths)
 
 -- all kept files are among what was met behind the chest's directory
-pub kept_behind : (roots : Roots) → AreApart roots → (tree : Tree) (word : List ℕ) (spot : Spot) (front rest : List Path) → is_word word ≡ true
+pub kept_behind : (roots : Roots) → AreApart roots → (tree : Tree) (word : List ℕ) (spot : Spot) (front rest : List Path) → is_word word ≡ true → is_dir (node_at tree (chest_path roots word spot)) ≡ true
     → entries tree (is_private roots) roots.dkms ≡ front ++ chest_path roots word spot ∷ rest
     → files_in (chest_path roots word spot) (map (met_at tree) rest) ≡ kept_paths roots tree word spot
-kept_behind roots apart tree word spot front rest worded split =
+kept_behind roots apart tree word spot front rest worded there split =
     let chest = chest_path roots word spot in
     let order = between front chest rest (subst (λ paths. rises paths ≡ true) split (entries_rise tree (is_private roots) roots.dkms)) in
     let own : is_kept tree chest chest ≡ false = ap (λ b. (is_under chest chest && not b) && is_file (node_at tree chest)) (under-self chest) ∙ and_false (is_under chest chest) (is_file (node_at tree chest)) in
@@ -181,7 +181,7 @@ kept_behind roots apart tree word spot front rest worded split =
     sym (ap (λ b. cond b (chest ∷ filter (is_kept tree chest) rest) (filter (is_kept tree chest) rest)) own)
     ∙ sym (ap (λ l. l ++ filter (is_kept tree chest) (chest ∷ rest)) (none_before tree chest front order.less))
     ∙ sym (filter-append (is_kept tree chest) front (chest ∷ rest)) ∙ ap (filter (is_kept tree chest)) (sym split) ∙ found)
-    ∙ sym (kept_of tree chest (filter (is_kept tree chest) (keys tree)))
+    ∙ sym (ap (λ b. map (λ (item : Path × Node). item.0) (cond b (steps.below tree chest (filter (is_kept tree chest) (keys tree))) [])) there ∙ kept_of tree chest (filter (is_kept tree chest) (keys tree)))
   where
     under_of : (path : Path) → is_kept tree (chest_path roots word spot) path ≡ true → is_under path (chest_path roots word spot) ≡ true
     under_of path h = first_so (is_under path (chest_path roots word spot)) (not (is_under (chest_path roots word spot) path)) (first_so (is_below path (chest_path roots word spot)) (is_file (node_at tree path)) h)
@@ -191,10 +191,6 @@ kept_behind roots apart tree word spot front rest worded split =
 cond_none : {A : Type 0} (b : Bool) → ◌≡◌ {A = Option A} (cond b None None) None
 cond_none true = refl
 cond_none false = refl
-
-option_map-cond : {A B : Type 0} (f : A → B) (b : Bool) (x : A) → cond b (Some (f x)) None ≡ option_map f (cond b (Some x) None)
-option_map-cond f true x = refl
-option_map-cond f false x = refl
 
 -- the names of a chest's directory
 abbrev is_chest : List ℕ → List ℕ → Spot → Bool
@@ -212,6 +208,24 @@ module _ (roots : Roots) (apart : AreApart roots) (tree : Tree) where
       → chest_met roots (met_at tree path) (map (met_at tree) rest) ≡ chest_at roots tree path
   chest_is front path rest split = by_under (is_under path roots.dkms) refl
     where
+      by_dir : (word : List ℕ) (spot : Spot) → is_word word ≡ true → entries tree (is_private roots) roots.dkms ≡ front ++ chest_path roots word spot ∷ rest
+          → (b : Bool) → is_dir (node_at tree (chest_path roots word spot)) ≡ b
+          → cond b (Some (chest_of word spot (files_in (chest_path roots word spot) (map (met_at tree) rest)))) None ≡ option_map (chest_of word spot) (cond b (Some (kept_paths roots tree word spot)) None)
+      by_dir word spot worded there true e = ap (λ l. Some (chest_of word spot l)) (kept_behind roots apart tree word spot front rest worded e there)
+      by_dir word spot worded there false e = refl
+
+      by_chest : (word : List ℕ) (spot : Spot) → is_word word ≡ true → entries tree (is_private roots) roots.dkms ≡ front ++ chest_path roots word spot ∷ rest
+          → cond (is_dir (node_at tree (chest_path roots word spot))) (Some (chest_of word spot (files_in (chest_path roots word spot) (map (met_at tree) rest)))) None
+          ≡ option_map (chest_of word spot) (chest_files roots tree word spot)
+      by_chest word spot worded there =
+          by_cond (is_dir (node_at tree (chest_path roots word spot))) refl
+        where
+          by_cond : (b : Bool) → is_dir (node_at tree (chest_path roots word spot)) ≡ b
+              → cond (is_dir (node_at tree (chest_path roots word spot))) (Some (chest_of word spot (files_in (chest_path roots word spot) (map (met_at tree) rest)))) None
+              ≡ option_map (chest_of word spot) (chest_files roots tree word spot)
+          by_cond b e = ap (λ b. cond b (Some (chest_of word spot (files_in (chest_path roots word spot) (map (met_at tree) rest)))) None) e
+              ∙ by_dir word spot worded there b e ∙ sym (ap (λ b. option_map (chest_of word spot) (cond b (Some (kept_paths roots tree word spot)) None)) e)
+
       by_word : (word name kernel arch : List ℕ) → path ≡ roots.dkms ++ word ∷ name ∷ kernel ∷ arch ∷ [] → (b : Bool) → is_chest word name (spot_of kernel arch) ≡ b
           → cond (is_dir_kind (kind_of (node_at tree path))) (cond b (Some (chest_of word (spot_of kernel arch) (files_in path (map (met_at tree) rest)))) None) None
           ≡ cond b (option_map (chest_of word (spot_of kernel arch)) (chest_files roots tree word (spot_of kernel arch))) None
@@ -219,11 +233,9 @@ module _ (roots : Roots) (apart : AreApart roots) (tree : Tree) where
           let worded = first_so (is_word word) (bytes_eq name (codes "original_module")) (first_so (is_word word && bytes_eq name (codes "original_module")) (is_spot (spot_of kernel arch)) e) in
           let named = (bytes_decides name (codes "original_module")).0 (second_so (is_word word) (bytes_eq name (codes "original_module")) (first_so (is_word word && bytes_eq name (codes "original_module")) (is_spot (spot_of kernel arch)) e)) in
           let here : path ≡ chest_path roots word (spot_of kernel arch) = is ∙ ap (λ n. roots.dkms ++ word ∷ n ∷ kernel ∷ arch ∷ []) named in
-          let kept = kept_behind roots apart tree word (spot_of kernel arch) front rest worded (split ∙ ap (λ p. front ++ p ∷ rest) here) in
           ap (λ b. cond b (Some (chest_of word (spot_of kernel arch) (files_in path (map (met_at tree) rest)))) None) (dir_of (node_at tree path))
           ∙ ap (λ p. cond (is_dir (node_at tree p)) (Some (chest_of word (spot_of kernel arch) (files_in p (map (met_at tree) rest)))) None) here
-          ∙ ap (λ l. cond (is_dir (node_at tree (chest_path roots word (spot_of kernel arch)))) (Some (chest_of word (spot_of kernel arch) l)) None) kept
-          ∙ option_map-cond (chest_of word (spot_of kernel arch)) (is_dir (node_at tree (chest_path roots word (spot_of kernel arch)))) (kept_paths roots tree word (spot_of kernel arch))
+          ∙ by_chest word (spot_of kernel arch) worded (split ∙ ap (λ p. front ++ p ∷ rest) here)
       by_word word name kernel arch is false e = cond_none (is_dir_kind (kind_of (node_at tree path)))
 
       by_names : (names : Path) → path ≡ roots.dkms ++ names

@@ -175,34 +175,11 @@ module _ (roots : Roots) (tree : Tree) where
   unfolding store_of
   chests_rise = entries_rise roots tree (chest_at roots tree) (chest_by (chest_files roots tree)) (λ chest. chest_names chest.module chest.spot) (chest_placed roots (chest_files roots tree))
 
--- nothing passes a test that all in the list fail
-none_pass : (test : Path → Bool) (paths : List Path) → ((path : Path) → list_any (same_path path) paths ≡ true → test path ≡ false) → filter test paths ≡ []
-none_pass test [] fails = refl
-none_pass test (path ∷ paths) fails =
-    ap (λ b. cond b (path ∷ filter test paths) (filter test paths)) (fails path (in_front path paths)) ∙ none_pass test paths (λ q h. fails q (in_more q path paths h))
-
--- where a chest's directory isn't there, no files are kept in it
-nothing_kept : (roots : Roots) (tree : Tree) (word : List ℕ) (spot : Spot) → IsFormed tree → is_dir (node_at tree (chest_path roots word spot)) ≡ false → kept_paths roots tree word spot ≡ []
-nothing_kept roots tree word spot formed out =
-    ap (λ paths. map (λ (item : Path × Node). item.0) (below tree (chest_path roots word spot) paths))
-    (none_pass (λ path. is_below path (chest_path roots word spot) && is_file (node_at tree path)) (keys tree) (λ path there. by_test _ (λ h. inside path there (first_so (is_below path (chest_path roots word spot)) (is_file (node_at tree path)) h))))
-  where
-    inside : (path : Path) → list_any (same_path path) (keys tree) ≡ true → is_below path (chest_path roots word spot) ≡ true → ⊥
-    inside path there h = at_rest (drop (length (chest_path roots word spot)) path) (under-split path (chest_path roots word spot) (first_so (is_under path (chest_path roots word spot)) (not (is_under (chest_path roots word spot) path)) h))
-      where
-        at_rest : (rest : Path) → path ≡ chest_path roots word spot ++ rest → ⊥
-        at_rest [] is =
-            let self : is_under (chest_path roots word spot) path ≡ true = ap (is_under (chest_path roots word spot)) (is ∙ append-nil (chest_path roots word spot)) ∙ under-self (chest_path roots word spot) in
-            untrue (sym (ap not self) ∙ second_so (is_under path (chest_path roots word spot)) (not (is_under (chest_path roots word spot) path)) h)
-        at_rest (name ∷ rest) is =
-            let stands : is_some (node_at tree (chest_path roots word spot ++ name ∷ rest)) ≡ true = ap (λ p. is_some (node_at tree p)) (sym is) ∙ standing tree path ∙ there in
-            untrue (sym out ∙ dir_above tree formed (chest_path roots word spot) name rest stands)
-
 -- the files of the chest in the list are those that are kept
-pub kept_are : (roots : Roots) (tree : Tree) (word : List ℕ) (spot : Spot) → IsFormed tree → is_word word ≡ true → is_spot spot ≡ true
+pub kept_are : (roots : Roots) (tree : Tree) (word : List ℕ) (spot : Spot) → is_word word ≡ true → is_spot spot ≡ true
     → kept_in (store_of roots tree) word spot ≡ map (λ item. item.0) (kept_files roots tree word spot)
 unfolding store_of
-kept_are roots tree word spot formed worded spotted =
+kept_are roots tree word spot worded spotted =
     ap (λ o. unwrap_or o [])
     (ap (option_map (λ (c : Chest). c.files))
     (found_at roots tree (chest_at roots tree) (chest_by (chest_files roots tree)) (λ chest. chest_names chest.module chest.spot) (chest_placed roots (chest_files roots tree)) (is_chest word spot) (chest_names word spot) names absent
@@ -226,4 +203,4 @@ kept_are roots tree word spot formed worded spotted =
 
     at_chest : (b : Bool) → is_dir (node_at tree (chest_path roots word spot)) ≡ b → unwrap_or (chest_files roots tree word spot) [] ≡ kept_paths roots tree word spot
     at_chest true e = ap (λ b. unwrap_or (cond b (Some (kept_paths roots tree word spot)) None) []) e
-    at_chest false e = ap (λ b. unwrap_or (cond b (Some (kept_paths roots tree word spot)) None) []) e ∙ sym (nothing_kept roots tree word spot formed e)
+    at_chest false e = ap (λ b. unwrap_or (cond b (Some (kept_paths roots tree word spot)) None) []) e ∙ sym (ap (λ b. map (λ (item : Path × Node). item.0) (cond b (below tree (chest_path roots word spot) (filter (λ path. is_below path (chest_path roots word spot) && is_file (node_at tree path)) (keys tree))) [])) e)

@@ -16,6 +16,7 @@ use Rattle.kb_world.specs.Store.{is_key, is_added, added_at, link_path, source_t
 use Rattle.kb_world.specs.Targets.{last_name, targets_of}
 use Rattle.kb_world.specs.Boxes.{is_spot, key_of, spot_of_link, boxed, is_built, has_files, places_at, module_file, installed, linked_at, kernel_link_path, kernel_link_name, version_of, chest_path}
 use Rattle.kb_world.specs.Steps.{kept_files}
+use Rattle.kb_world.specs.Steps as steps
 use Rattle.kb_world.specs.Damage.{least, hurt, harm_at, harm_below, link_harm, box_harm, files_harm, unless_sound}
 use Rattle.kb_world.specs.declared.roots.Roots.{Roots}
 use Rattle.kb_world.specs.declared.job.Key.{Key}
@@ -206,15 +207,13 @@ module _ (roots : Roots) (apart : AreApart roots) (tree : Tree) where
       let split = under-split path chest (first_so (is_under path chest) (not (is_under chest path)) h) in
       ap (node_at (public_tree roots tree)) split ∙ chest_shown word spot named (drop (length chest) path) ∙ sym (ap (node_at tree) split)
 
+  chest_dir : (word : List ℕ) (spot : Spot) → is_word word ≡ true → node_at (public_tree roots tree) (chest_path roots word spot) ≡ node_at tree (chest_path roots word spot)
+  chest_dir word spot named =
+      names_shown (word ∷ codes "original_module" ∷ spot.kernel ∷ spot.arch ∷ []) (word_tells word (codes "original_module" ∷ spot.kernel ∷ spot.arch ∷ []) named (chest_plain word (codes "original_module") (spot.kernel ∷ spot.arch ∷ []) refl))
+
   -- the same files are kept
   kept_same : (word : List ℕ) (spot : Spot) → is_word word ≡ true → kept_files roots (public_tree roots tree) word spot ≡ kept_files roots tree word spot
-  kept_same word spot named =
-      ap (map (λ path. (drop (length chest) path, unwrap_or (node_at (public_tree roots tree) path) node.Dir))) same_paths
-      ∙ map_same (λ path. (drop (length chest) path, unwrap_or (node_at (public_tree roots tree) path) node.Dir)) (λ path. (drop (length chest) path, unwrap_or (node_at tree path) node.Dir)) (files tree)
-      (λ path h.
-      let here = sym (in_filter (λ q. is_below q chest && is_file (node_at tree q)) (keys tree) path) ∙ h in
-      let stands = below_chest word spot named path (first_so (is_below path chest) (is_file (node_at tree path)) (first_so (is_below path chest && is_file (node_at tree path)) _ here)) in
-      λ i. (drop (length chest) path, unwrap_or (stands i) node.Dir))
+  kept_same word spot named = let stands = chest_dir word spot named in λ i. cond (is_dir (stands i)) (listed i) []
     where
       chest : Path
       chest = chest_path roots word spot
@@ -232,11 +231,18 @@ module _ (roots : Roots) (apart : AreApart roots) (tree : Tree) where
           ∙ first_guarded (is_below path chest) _ _ _ _ (λ h. ap is_file (below_chest word spot named path h)) (λ h. ap is_some (below_chest word spot named path h))
           ∙ sym (members tree path))
 
+      listed : steps.below (public_tree roots tree) chest (files (public_tree roots tree)) ≡ steps.below tree chest (files tree)
+      listed =
+          ap (map (λ path. (drop (length chest) path, unwrap_or (node_at (public_tree roots tree) path) node.Dir))) same_paths
+          ∙ map_same (λ path. (drop (length chest) path, unwrap_or (node_at (public_tree roots tree) path) node.Dir)) (λ path. (drop (length chest) path, unwrap_or (node_at tree path) node.Dir)) (files tree)
+          (λ path h.
+          let here = sym (in_filter (λ q. is_below q chest && is_file (node_at tree q)) (keys tree) path) ∙ h in
+          let stands = below_chest word spot named path (first_so (is_below path chest) (is_file (node_at tree path)) (first_so (is_below path chest && is_file (node_at tree path)) _ here)) in
+          λ i. (drop (length chest) path, unwrap_or (stands i) node.Dir))
+
   chest_files_same : (word : List ℕ) (spot : Spot) → is_word word ≡ true → is_spot spot ≡ true → chest_files roots (public_tree roots tree) word spot ≡ chest_files roots tree word spot
   chest_files_same word spot named spotted =
-      let chest = chest_path roots word spot in
-      let stands : node_at (public_tree roots tree) chest ≡ node_at tree chest =
-      names_shown (word ∷ codes "original_module" ∷ spot.kernel ∷ spot.arch ∷ []) (word_tells word (codes "original_module" ∷ spot.kernel ∷ spot.arch ∷ []) named (chest_plain word (codes "original_module") (spot.kernel ∷ spot.arch ∷ []) refl)) in
+      let stands = chest_dir word spot named in
       let kept = kept_same word spot named in
       λ i. cond (is_dir (stands i)) (Some (map (λ item. item.0) (kept i))) None
 

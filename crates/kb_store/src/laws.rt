@@ -3,7 +3,7 @@ ghost use Rattle.std.specs.Prelude.{◌≡◌, ◌&&◌, List, ℕ, true, map};
 ghost use Rattle.std.specs.Option.{option_map};
 ghost use Rattle.std.specs.List.{find, list_any};
 ghost use Rattle.kb_world.specs.Names.{is_word};
-ghost use Rattle.kb_world.specs.Tree.{Tree, IsFormed};
+ghost use Rattle.kb_world.specs.Tree.{Tree};
 ghost use Rattle.kb_world.specs.Store.{is_key, is_added, same_key, link_path};
 ghost use Rattle.kb_world.specs.Boxes.{is_spot, boxed, installed, targets_path, kernel_link_path, chest_path};
 ghost use Rattle.kb_world.specs.Steps.{kept_files};
@@ -16,14 +16,14 @@ ghost use Rattle.kb_store.specs.Accessors.{added_in, builds_in, installed_in, ke
 /// The lists of a store tell the parts of its tree: a package is among the added ones exactly where it is added; a
 /// build is among the builds exactly where it is there, with its places; the version that is found installed is the
 /// one that is installed; and the files that are found kept are those that are kept. This holds of every tree, with
-/// damage or without; of kept files, of every tree in which all stands in directories.
+/// damage or without.
 pub fn a_store_tells_its_parts()
     ensures added { (roots : Roots) (store : Tree) (key : Key) → list_any (same_key key) (added_in (store_of roots store)) ≡ (is_key key && is_added roots key store) }
     ensures builds { (roots : Roots) (store : Tree) (key : Key) (spot : Spot) → is_key key ≡ true → is_spot spot ≡ true →
         option_map (λ build. build.targets) (find (is_build key spot) (builds_in (store_of roots store))) ≡ boxed roots store key spot }
     ensures installed { (roots : Roots) (store : Tree) (word : List ℕ) (spot : Spot) → is_word word ≡ true → is_spot spot ≡ true →
         installed_in (store_of roots store) word spot ≡ installed roots store word spot }
-    ensures kept { (roots : Roots) (store : Tree) (word : List ℕ) (spot : Spot) → IsFormed store → is_word word ≡ true → is_spot spot ≡ true →
+    ensures kept { (roots : Roots) (store : Tree) (word : List ℕ) (spot : Spot) → is_word word ≡ true → is_spot spot ≡ true →
         kept_in (store_of roots store) word spot ≡ map (λ item. item.0) (kept_files roots store word spot) }
 {}
 

@@ -3,5 +3,4 @@ pub mod RunLaws
 pub mod ServeLaws
 pub mod SettingLaws
 pub mod StartLaws
-pub mod Stays
 pub mod TellLaws

@@ -8,7 +8,6 @@ use Rattle.kb_world.specs.Public.{public_tree}
 use Rattle.kb_world.specs.Refusal.{message_of, fault_line, no_memory_line}
 use Rattle.kb_world.specs.Outcome.{Outcome}
 use Rattle.kb_world.specs.Does.{Answers}
-use Rattle.kb_world.specs.Script.{Script}
 use Rattle.kb_world.specs.declared.roots.Roots.{Roots}
 use Rattle.kb_world.specs.declared.job.Host.{Host}
 use Rattle.kb_world.specs.declared.job.Report.{Report}
@@ -20,9 +19,8 @@ use Rattle.kb_top.specs.declared.end.End.TheVariants as end
 use Rattle.kb_words.specs.Words.{Word}
 use Rattle.kb_top.specs.Machine.{outcome_of}
 use Rattle.kb_top.specs.Serve.{Serves}
-use Rattle.kb_top.specs.Run.{Outside, RunsCommand, IsEndOf, IsGivenUp, IsDone, IsAnswerOrWant, WroteFront, Wrote, WroteNothing, err_text, with_line}
+use Rattle.kb_top.specs.Run.{Outside, RunsCommand, IsEndOf, IsGivenUp, IsDone, WroteFront, Wrote, WroteNothing, err_text, with_line}
 use Rattle.kb_top.specs.Tell.{Sinks, Tells, TellsAs, FinishesAs, SinkFailed, SaysFront, with_message}
-use Rattle.kb_top.proofs.Stays.{refused_stays}
 
 -- the end of a command that is due to be refused so, or not
 abbrev end_for : Option Refusal → End
@@ -117,32 +115,6 @@ tells_no_setting report old new result (Err Fault) told =
 tells_no_setting report old new result (Err NoMemory) told =
     (λ e. let impossible : end.NoMemory ≡ end.BadRoot = sym told.0 ∙ e in cc, λ e. let impossible : end.NoMemory ≡ end.BadBoot = sym told.0 ∙ e in cc)
 
-finishes_steady : (due : End) (report : Report) (old new : Sinks) (result : End) → (SinkFailed old new → ⊥) → FinishesAs due report old new result → IsAnswerOrWant result
-finishes_steady due report old new end.Done never f = tt
-finishes_steady due report old new (end.Refused why) never f = tt
-finishes_steady due report old new end.NoMemory never f = tt
-finishes_steady due report old new end.SinkFault never f = never f.failed
-finishes_steady due report old new end.Fault never f = f
-finishes_steady due report old new end.BadRoot never f = f
-finishes_steady due report old new end.BadBoot never f = f
-
-tells_steady : (report : Report) (old new : Sinks) (result : End) (answer : Result (Unit {0}) Stop) → (SinkFailed old new → ⊥) → (answer ≡ Err Fault → ⊥) → TellsAs answer report old new result
-    → IsAnswerOrWant result
-tells_steady report old new result (Ok u) never faultless told = finishes_steady end.Done report old new result never told
-tells_steady report old new result (Err (Refused why)) never faultless told = finishes_steady (end.Refused why) (with_message report why) old new result never told
-tells_steady report old new result (Err Fault) never faultless told = absurd (faultless refl)
-tells_steady report old new result (Err NoMemory) never faultless told = subst IsAnswerOrWant (sym told.0) tt
-
--- a refusal is the outcome's, and it has changed nothing
-refused_same : (host : Host) (script : Script) (words : List Word) (tree now : Tree) (old new : Outside) (why : Refusal)
-    → IsEndOf host.roots (public_tree host.roots tree) (outcome_of host script words tree) old new (end.Refused why)
-    → new.world.tree ≡ Some now → public_tree host.roots now ≡ public_tree host.roots tree
-refused_same host script words tree now old new why answered is =
-    let found = answered.tree in
-    let same : Some now ≡ Some found.0 = sym is ∙ found.1 in
-    let now_is : now ≡ found.0 = cc in
-    ap (public_tree host.roots) now_is ∙ found.2.public_part ∙ refused_stays host script words tree why answered.ended
-
 -- the whole call
 pub runs : (host : Host) (words : List Word) (old_world new_world : State) (old new : Sinks) (report : Report) (answer : Result (Unit {0}) Stop) (result : End)
     → Serves host words old_world new_world nothing_said report answer → Tells answer report old new result
@@ -154,16 +126,15 @@ runs host words old_world new_world old new report answer result s t =
     λ tree told rooted. ends_as host.roots (public_tree host.roots tree) (outcome_of host old_world.script words tree) before after report answer result (s.answers tree told rooted) t.ends in
     record {
       ends = ends;
-      refused = λ why is rooted tree told now told_now.
-          refused_same host old_world.script words tree now before after why
-          (subst (λ r. IsEndOf host.roots (public_tree host.roots tree) (outcome_of host old_world.script words tree) before after r) is (ends tree told rooted)) told_now;
       damaged = s.damaged;
       fault = λ is. let f = tells_fault report old new result answer t.ends is in record { rose = s.cause.rose f.0; out = f.1; err = f.2 };
       sink_fault = λ is. (tells_sink report old new result answer t.ends is).rose;
-      complete = λ steady. (
-        tells_steady report old new result answer (λ failed. failed.unsteady steady.out steady.err) (λ is. s.cause.never steady.world is) t.ends,
-        record { world = s.cause.steady steady.world; out = t.go_on.out_steady steady.out; err = t.go_on.err_steady steady.err },
-      );
+      world_keeps = record { steady = s.cause.steady; faultless = λ told steady is. s.cause.never told steady (tells_fault report old new result answer t.ends is).0 };
+      sinks_keep = record {
+        out = t.go_on.out_steady;
+        err = t.go_on.err_steady;
+        faultless = λ out err is. (tells_sink report old new result answer t.ends is).unsteady out err;
+      };
       no_setting = tells_no_setting report old new result answer t.ends;
       counts = record { world = s.cause.later; out = t.go_on.out_later; err = t.go_on.err_later };
       lasts = s.lasts;
@@ -183,11 +154,11 @@ pub runs_wanting : (host : Host) (words : List Word) (world : State) (out old_er
     → RunsCommand host words (record { world = world; out = out; err = old_err }) (record { world = world; out = out; err = new_err }) end.NoMemory
 runs_wanting host words world out old_err new_err says = record {
   ends = λ tree told rooted. record { out = inl refl; err = says.front };
-  refused = λ why is. let impossible : end.NoMemory ≡ end.Refused why = is in cc;
   damaged = λ tree told stands. (refl, refl);
   fault = λ is. let impossible : end.NoMemory ≡ end.Fault = is in cc;
   sink_fault = λ is. let impossible : end.NoMemory ≡ end.SinkFault = is in cc;
-  complete = λ steady. (tt, record { world = steady.world; out = steady.out; err = says.steady steady.err });
+  world_keeps = record { steady = λ is. is; faultless = λ told steady is. let impossible : end.NoMemory ≡ end.Fault = is in cc };
+  sinks_keep = record { out = λ is. is; err = says.steady; faultless = λ out err is. let impossible : end.NoMemory ≡ end.SinkFault = is in cc };
   no_setting = (λ is. let impossible : end.NoMemory ≡ end.BadRoot = is in cc, λ is. let impossible : end.NoMemory ≡ end.BadBoot = is in cc);
   counts = record { world = omega arith; out = omega arith; err = says.later };
   lasts = record { roots = refl; script = refl; told = refl };

@@ -84,7 +84,7 @@ set_aside due line world out old_err new_err says = record {
   world = refl;
   out = refl;
   says = inl (refl, says.front);
-  steady = λ steady. record { world = steady.world; out = steady.out; err = says.steady steady.err };
+  steady = says.steady;
   counts = record { world = omega arith; out = omega arith; err = says.later };
 }
 
@@ -94,7 +94,7 @@ set_aside_wanting due line world out old_err new_err says = record {
   world = refl;
   out = refl;
   says = inr (refl, says.front);
-  steady = λ steady. record { world = steady.world; out = steady.out; err = says.steady steady.err };
+  steady = says.steady;
   counts = record { world = omega arith; out = omega arith; err = says.later };
 }
 

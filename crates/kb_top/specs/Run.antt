@@ -91,20 +91,16 @@ pub record IsFaulted (old new : Outside) : Type 0 where
   pub out : WroteNothing old.out new.out
   pub err : WroteFront fault_line old.err new.err
 
--- an answer, or want of memory
-abbrev pub IsAnswerOrWant : End → Type 0
-IsAnswerOrWant end.Done = Unit {0}
-IsAnswerOrWant (end.Refused why) = Unit {0}
-IsAnswerOrWant end.NoMemory = Unit {0}
-IsAnswerOrWant end.Fault = ⊥
-IsAnswerOrWant end.SinkFault = ⊥
-IsAnswerOrWant end.BadRoot = ⊥
-IsAnswerOrWant end.BadBoot = ⊥
+-- a steady world stays so, and gives no fault where it tells its tree
+pub record WorldKeeps (old new : Outside) (result : End) : Type 0 where
+  pub steady : IsTrue old.world.steady → IsTrue new.world.steady
+  pub faultless : IsTrue (is_some old.world.tree) → IsTrue old.world.steady → result ≡ end.Fault → ⊥
 
-pub record AreSteady (outside : Outside) : Type 0 where
-  pub world : IsTrue outside.world.steady
-  pub out : IsTrue outside.out.steady
-  pub err : IsTrue outside.err.steady
+-- a steady sink stays so, and where both are steady none fails
+pub record SinksKeep (old new : Outside) (result : End) : Type 0 where
+  pub out : IsTrue old.out.steady → IsTrue new.out.steady
+  pub err : IsTrue old.err.steady → IsTrue new.err.steady
+  pub faultless : IsTrue old.out.steady → IsTrue old.err.steady → result ≡ end.SinkFault → ⊥
 
 -- no count of faults falls
 pub record CountsStay (old new : Outside) : Type 0 where
@@ -117,17 +113,15 @@ pub record RunsCommand (host : Host) (words : List Word) (old new : Outside) (re
   -- over a told tree, of a world whose roots are the host's, it equals the command machine
   pub ends : ForSome old.world.tree (λ tree. old.world.roots ≡ host.roots →
       IsEndOf host.roots (public_tree host.roots tree) (outcome_of host old.world.script words tree) old new result)
-  -- a refusal leaves the public tree as it was
-  pub refused : (why : Refusal) → result ≡ end.Refused why → old.world.roots ≡ host.roots →
-      ForSome old.world.tree (λ tree. ForSome new.world.tree (λ now. public_tree host.roots now ≡ public_tree host.roots tree))
   -- where anything stands in the place of a journal, nothing is changed and no child is run
   pub damaged : ForSome old.world.tree (λ tree. is_some (node_at tree (intent_path host.roots)) ≡ true → (new.world.tree ≡ old.world.tree) × (new.world.ran ≡ old.world.ran))
   -- it ends with a fault only where the outside's count rose, and says only the fixed line then
   pub fault : result ≡ end.Fault → IsFaulted old new
   -- and with a sink's fault only where a sink's count rose
   pub sink_fault : result ≡ end.SinkFault → Rose old.out.faults new.out.faults ⊎ Rose old.err.faults new.err.faults
-  -- a world and sinks that are steady give an answer or want of memory
-  pub complete : AreSteady old → IsAnswerOrWant result × AreSteady new
+  -- a world and sinks that are steady give no fault, each by itself
+  pub world_keeps : WorldKeeps old new result
+  pub sinks_keep : SinksKeep old new result
   -- the setting is none of its concern
   pub no_setting : (result ≡ end.BadRoot → ⊥) × (result ≡ end.BadBoot → ⊥)
   pub counts : CountsStay old new

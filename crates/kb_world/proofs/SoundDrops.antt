@@ -12,8 +12,8 @@ use Rattle.kb_world.specs.TreeLaws.{same_path, same_path-true}
 use Rattle.kb_world.specs.Roots.{AreApart}
 use Rattle.kb_world.specs.Store.{says}
 use Rattle.kb_world.specs.Targets.{targets_of}
-use Rattle.kb_world.specs.Boxes.{is_spot, targets_path, places_at, is_built, has_files, boxed, kernel_link_name, kernel_link_path, linked_at, installed, key_of, version_of, spot_of_link}
-use Rattle.kb_world.specs.Steps.{all_placed, cleared, taken, in_kernel, installed_places, is_displaced, install_step, restored, kept_files, displaced, in_chest, built_modules, uninstall_step, unbuild_step, unadd_step}
+use Rattle.kb_world.specs.Boxes.{is_spot, targets_path, places_at, is_built, has_files, boxed, kernel_link_name, kernel_link_path, linked_at, installed, key_of, version_of, spot_of_link, chest_path}
+use Rattle.kb_world.specs.Steps.{all_placed, cleared, taken, in_kernel, installed_places, is_displaced, install_step, restored, kept_files, displaced, in_chest, built_modules, without_chest, uninstall_step, unbuild_step, unadd_step}
 use Rattle.kb_world.specs.declared.roots.Roots.{Roots}
 use Rattle.kb_world.specs.declared.job.Key.{Key}
 use Rattle.kb_world.specs.declared.job.Spot.{Spot}
@@ -130,6 +130,13 @@ chest_gone roots word kernel arch tree s =
     chest : Path
     chest = word ∷ codes "original_module" ∷ kernel ∷ arch ∷ []
 
+chestless_sound : (roots : Roots) (word kernel arch : List ℕ) (tree : Tree) → IsSound roots tree → IsSound roots (without_chest roots word (spot_of kernel arch) tree)
+chestless_sound roots word kernel arch tree s = by (is_dir (node_at tree (chest_path roots word (spot_of kernel arch))))
+  where
+    by : (there : Bool) → IsSound roots (cond there (taken roots.dkms (word ∷ codes "original_module" ∷ kernel ∷ arch ∷ []) tree) tree)
+    by true = chest_gone roots word kernel arch tree s
+    by false = s
+
 -- nothing that tells stands below a spot's link
 link_name_no_version : (spot : Spot) → is_version (kernel_link_name spot) ≡ false
 link_name_no_version spot = and_false (is_word (kernel_link_name spot) && not (bytes_eq (kernel_link_name spot) (codes "original_module")))
@@ -227,17 +234,17 @@ module _ (roots : Roots) (apart : AreApart roots) (word version kernel arch : Li
   abbrev key : Key
   key = key_of word version
 
-  abbrev without_chest : Tree
-  without_chest = taken roots.dkms (word ∷ codes "original_module" ∷ kernel ∷ arch ∷ []) (restored roots key spot store)
+  abbrev chestless : Tree
+  chestless = without_chest roots word spot (restored roots key spot store)
 
-  freed : IsFree roots word spot (taken roots.dkms (word ∷ kernel_link_name spot ∷ []) without_chest)
-  freed = link_taken roots word spot without_chest linkable (chest_gone roots word kernel arch (restored roots key spot store) (restored_sound roots apart key spot store s))
+  freed : IsFree roots word spot (taken roots.dkms (word ∷ kernel_link_name spot ∷ []) chestless)
+  freed = link_taken roots word spot chestless linkable (chestless_sound roots word kernel arch (restored roots key spot store) (restored_sound roots apart key spot store s))
 
   pub uninstall_sound : IsSound roots (uninstall_step roots (key_of word version) (spot_of kernel arch) store)
   unfolding uninstall_step
   uninstall_sound = by (says version (installed roots store word spot))
     where
-      by : (says_so : Bool) → IsSound roots (cond says_so (taken roots.dkms (word ∷ kernel_link_name spot ∷ []) without_chest) store)
+      by : (says_so : Bool) → IsSound roots (cond says_so (taken roots.dkms (word ∷ kernel_link_name spot ∷ []) chestless) store)
       by true = freed.0
       by false = s
 
@@ -245,10 +252,10 @@ module _ (roots : Roots) (apart : AreApart roots) (word version kernel arch : Li
   unfolding uninstall_step
   unlinked is_module is_one spotted = by (says version (installed roots store word spot)) refl
     where
-      by : (says_so : Bool) → says version (installed roots store word spot) ≡ says_so → IsUnlinked roots (cond (says version (installed roots store word spot)) (taken roots.dkms (word ∷ kernel_link_name spot ∷ []) without_chest) store) word version spot
-      by true e = subst (λ b. IsUnlinked roots (cond b (taken roots.dkms (word ∷ kernel_link_name spot ∷ []) without_chest) store) word version spot) (sym e) (λ linked.
-          let none : None ≡ Some version = sym (ap (λ n. option_and_then (λ v. cond (is_built roots (taken roots.dkms (word ∷ kernel_link_name spot ∷ []) without_chest) (key_of word v) spot) (Some v) None) (option_and_then (version_of spot) (link_text n))) freed.1) ∙ linked in cc)
-      by false e = subst (λ b. IsUnlinked roots (cond b (taken roots.dkms (word ∷ kernel_link_name spot ∷ []) without_chest) store) word version spot) (sym e) (λ linked.
+      by : (says_so : Bool) → says version (installed roots store word spot) ≡ says_so → IsUnlinked roots (cond (says version (installed roots store word spot)) (taken roots.dkms (word ∷ kernel_link_name spot ∷ []) chestless) store) word version spot
+      by true e = subst (λ b. IsUnlinked roots (cond b (taken roots.dkms (word ∷ kernel_link_name spot ∷ []) chestless) store) word version spot) (sym e) (λ linked.
+          let none : None ≡ Some version = sym (ap (λ n. option_and_then (λ v. cond (is_built roots (taken roots.dkms (word ∷ kernel_link_name spot ∷ []) chestless) (key_of word v) spot) (Some v) None) (option_and_then (version_of spot) (link_text n))) freed.1) ∙ linked in cc)
+      by false e = subst (λ b. IsUnlinked roots (cond b (taken roots.dkms (word ∷ kernel_link_name spot ∷ []) chestless) store) word version spot) (sym e) (λ linked.
           untrue (sym e ∙ says-so roots word version kernel arch store is_module is_one spotted s linked))
 
   pub unbuild_sound : is_word word ≡ true → is_version version ≡ true → is_spot (spot_of kernel arch) ≡ true → IsSound roots (unbuild_step roots (key_of word version) (spot_of kernel arch) store)

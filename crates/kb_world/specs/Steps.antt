@@ -178,11 +178,11 @@ install_blocked roots key spot store =
 
 -- ---- Drop and Unadd
 
--- the kept files of a chest, by their names below it
+-- the kept files of a chest, by their names below it, where its directory is there
 abbrev pub kept_files : Roots → Tree → List ℕ → Spot → List (Path × Node)
 kept_files roots store word spot =
     let chest = chest_path roots word spot in
-    below store chest (filter (λ path. is_below path chest && is_file (node_at store path)) (keys store))
+    cond (is_dir (node_at store chest)) (below store chest (filter (λ path. is_below path chest && is_file (node_at store path)) (keys store))) []
 
 -- What an uninstall does below the kernel's directory, where that is one, without what depmod then writes: the
 -- modules go, and the kept files stand at their places again.
@@ -192,12 +192,16 @@ restored roots key spot store =
     (all_placed roots.modules spot.kernel (kept_files roots store key.module spot) (cleared (λ path. list_any (same_path path) (installed_places roots store key.module spot)) store))
     store
 
+-- the chest of a spot goes: a directory, and what is below it
+abbrev pub without_chest : Roots → List ℕ → Spot → Tree → Tree
+without_chest roots word spot tree =
+    cond (is_dir (node_at tree (chest_path roots word spot))) (taken roots.dkms (word ∷ codes "original_module" ∷ spot.kernel ∷ spot.arch ∷ []) tree) tree
+
 -- Drop where the build stays: a version that is installed is so no longer, and its chest goes.
 unfoldable pub uninstall_step : Roots → Key → Spot → Tree → Tree
 uninstall_step roots key spot store =
     cond (says key.version (installed roots store key.module spot))
-    (taken roots.dkms (key.module ∷ kernel_link_name spot ∷ [])
-    (taken roots.dkms (key.module ∷ codes "original_module" ∷ spot.kernel ∷ spot.arch ∷ []) (restored roots key spot store)))
+    (taken roots.dkms (key.module ∷ kernel_link_name spot ∷ []) (without_chest roots key.module spot (restored roots key spot store)))
     store
 
 -- Drop where the build goes too.

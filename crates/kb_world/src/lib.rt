@@ -29,7 +29,7 @@ pub use roots::Roots;
 pub use sequence::Sequence;
 pub use sink::{Sink, SinkError};
 pub use stop::Stop;
-pub use store_laws::{no_step_damages, targets_are_read_back};
+pub use store_laws::{layout_is_the_store, no_step_damages, targets_are_read_back};
 pub use text::{Bytes, Text, Texts};
 pub use tree::{Edit, Kind, Node};
 pub use whose::{is_index, is_private};
