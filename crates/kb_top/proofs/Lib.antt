@@ -1,4 +1,4 @@
-pub mod RootsLaws
+pub mod BootLaws
 pub mod RunLaws
 pub mod ServeLaws
 pub mod SettingLaws

@@ -10,7 +10,8 @@ use Rattle.kb_world.specs.declared.job.Host.{Host}
 use Rattle.kb_world.proofs.PathText.{path_text-slice_split, names_of_text, path_text_begins}
 use Rattle.kb_top.specs.declared.setting.Setting.{Setting}
 use Rattle.kb_top.specs.Setting.{IsPathOf, IsNoPath, IsBase, IsBadBase, with_boot, HasBoot, IsBadBootFor, IsHostOf, IsBadRoot, IsBadBoot}
-use Rattle.kb_top.proofs.RootsLaws.{usual_apart, boot_apart, boot_found_apart}
+use Rattle.kb_world.proofs.RootsLaws.{usual_apart}
+use Rattle.kb_top.proofs.BootLaws.{boot_apart, boot_found_apart}
 
 abbrev SLASH : ℕ
 SLASH = 47

@@ -6,6 +6,7 @@ pub mod NameLaws
 pub mod PathLaws
 pub mod PathText
 pub mod PublicLaws
+pub mod RootsLaws
 pub mod SoundDrops
 pub mod SoundEdits
 pub mod SoundLaws

@@ -3,7 +3,7 @@ use Rattle.std.proofs.Common.{◌≡◌, Result, Ok, Err, IfOk, sym, subst}
 use Rattle.kb_world.specs.Path.{Path}
 use Rattle.kb_world.specs.Roots.{AreApart, roots_under}
 use Rattle.kb_world.specs.declared.roots.Roots.{Roots}
-use Rattle.kb_top.proofs.RootsLaws.{usual_apart}
+use Rattle.kb_world.proofs.RootsLaws.{usual_apart}
 use Rattle.store_bench.proofs.roots_below.Goals as goal
 
 -- what is the usual roots is roots that are apart

@@ -4,7 +4,8 @@ use Rattle.std.specs.List.{list_all}
 use Rattle.kb_world.specs.Path.{are_apart}
 use Rattle.kb_world.specs.Roots.{AreApart, based_roots}
 use Rattle.kb_top.specs.Setting.{with_boot}
-use Rattle.kb_top.proofs.RootsLaws.{usual_apart, boot_apart}
+use Rattle.kb_world.proofs.RootsLaws.{usual_apart}
+use Rattle.kb_top.proofs.BootLaws.{boot_apart}
 use Rattle.kb_top.proofs.setting.roots_of.Goals as goal
 
 pub returns-then-is_boot_apart-clause-apart : goal.returns-then-is_boot_apart-clause-apart

@@ -7,7 +7,6 @@ use Rattle.std.specs.Cmp.Derive.{both_true}
 use Rattle.kb_world.specs.Path.{Path, is_under, are_apart}
 use Rattle.kb_world.specs.Roots.{AreApart, roots_under, based_roots, each_apart, is_below}
 use Rattle.kb_world.proofs.PathLaws.{under-append, under-beside}
-use Rattle.kb_top.specs.Setting.{with_boot}
 
 -- below a base, paths are apart as they are below the root directory
 apart_below : (base a b : Path) → are_apart (base ++ a) (base ++ b) ≡ are_apart a b
@@ -53,22 +52,13 @@ listed base =
     (λ i. dkms i ∷ src i ∷ modules i ∷ (base ++ codes "etc" ∷ []) ∷ lib i ∷ (base ++ codes "proc" ∷ []) ∷ [])
 
 -- all but the boot
-based_apart : (base : Path) → each_apart (based_roots (roots_under base)) ≡ true
+pub based_apart : (base : Path) → each_apart (based_roots (roots_under base)) ≡ true
 based_apart base = ap each_apart (listed base) ∙ each_below base usual refl
 
-based_below : (base : Path) → list_all (λ root. is_below root base) (based_roots (roots_under base)) ≡ true
+pub based_below : (base : Path) → list_all (λ root. is_below root base) (based_roots (roots_under base)) ≡ true
 based_below base = ap (list_all (λ root. is_below root base)) (listed base) ∙ below_all base usual refl
 
 pub usual_apart : (base : Path) → AreApart (roots_under base)
 usual_apart base =
     let boot = ap (list_all (are_apart (base ++ usual_boot))) (listed base) ∙ all_below base usual_boot usual refl in
     both_true (both_true boot (based_apart base)) (based_below base)
-
--- another boot is as good where it is apart from the others
-pub boot_apart : (base boot : Path) → list_all (are_apart boot) (based_roots (roots_under base)) ≡ true → AreApart (with_boot boot (roots_under base))
-boot_apart base boot h = both_true (both_true h (based_apart base)) (based_below base)
-
-pub boot_found_apart : (base boot : Path) → AreApart (with_boot boot (roots_under base)) → list_all (are_apart boot) (based_roots (roots_under base)) ≡ true
-boot_found_apart base boot h =
-    let based = based_roots (roots_under base) in
-    first_so (list_all (are_apart boot) based) _ (first_so (each_apart (boot ∷ based)) _ h)
