@@ -23,11 +23,11 @@ use Rattle.kb_world.proofs.NameLaws.{known, begins-append}
 use Rattle.kb_world.proofs.PathLaws.{elsewhere, under-append, apart-back}
 use Rattle.kb_world.proofs.PublicLaws.{IsAlwaysPublic, written_apart, in_dkms, in_src, shown, public_tree-with_node, foreign_tree-with_node}
 use Rattle.kb_world.proofs.StepLaws.{blocking-same}
-use Rattle.kb_conf.specs.Load.{conf_path, loaded_conf}
+use Rattle.kb_conf.specs.Load.{conf_below, loaded_conf}
 use Rattle.kb_conf.specs.declared.given.Given.{Given}
 use Rattle.kb_dkms.specs.Add.{already_added, blocked}
 use Rattle.kb_dkms.specs.declared.places.Places.{Places}
-use Rattle.kb_dkms.specs.Places.{places_of, standing, place_blocked, place_step}
+use Rattle.kb_dkms.specs.Places.{package_places, standing, place_blocked, place_step}
 
 -- each place of a package is public, whatever stands there
 pub record ArePublic (roots : Roots) (places : Places) : Type 0 where
@@ -35,12 +35,12 @@ pub record ArePublic (roots : Roots) (places : Places) : Type 0 where
   pub version : IsAlwaysPublic roots places.version
   pub link : IsAlwaysPublic roots places.link
   pub source : IsAlwaysPublic roots places.source
-  pub conf : IsAlwaysPublic roots (conf_path places.source)
+  pub conf : IsAlwaysPublic roots (conf_below places.source)
 
 at_path : (roots : Roots) (a b : Path) → a ≡ b → IsAlwaysPublic roots b → IsAlwaysPublic roots a
 at_path roots a b same open_b = subst (IsAlwaysPublic roots) (sym same) open_b
 
-pub are_public : (roots : Roots) → AreApart roots → (key : Key) → is_key key ≡ true → ArePublic roots (places_of roots key)
+pub are_public : (roots : Roots) → AreApart roots → (key : Key) → is_key key ≡ true → ArePublic roots (package_places roots key)
 are_public roots apart key good =
     let is_module = first_so (is_word key.module) (is_version key.version) good in
     let plain = (known key.module is_module).begins in
@@ -89,7 +89,7 @@ conf_shown roots apart key good given tree =
     let open_to = are_public roots apart key good in
     same_conf (source_path roots key) tree (public_tree roots tree) (sym (shown roots tree _ open_to.source)) (sym (shown roots tree _ open_to.conf))
   where
-    same_conf : (dir : Path) (a b : Tree) → node_at a dir ≡ node_at b dir → node_at a (conf_path dir) ≡ node_at b (conf_path dir)
+    same_conf : (dir : Path) (a b : Tree) → node_at a dir ≡ node_at b dir → node_at a (conf_below dir) ≡ node_at b (conf_below dir)
         → loaded_conf dir (Some key) given a ≡ loaded_conf dir (Some key) given b
     same_conf dir a b source conf = cc
 
@@ -98,7 +98,7 @@ first_some None b f = refl
 first_some (Some x) b f = refl
 
 pub blocked_shown : (roots : Roots) → AreApart roots → (key : Key) → is_key key ≡ true → (tree : Tree)
-    → place_blocked (places_of roots key) tree ≡ blocked roots key (public_tree roots tree)
+    → place_blocked (package_places roots key) tree ≡ blocked roots key (public_tree roots tree)
 blocked_shown roots apart key good tree =
     let open_to = are_public roots apart key good in
     let store = public_tree roots tree in
@@ -127,27 +127,27 @@ foreign-with_directory roots path tree open_to = by_case (is_some (node_at tree 
     by_case false s = ap (λ b. foreign_tree roots (cond b tree (with_node path node.Dir tree))) s ∙ foreign_tree-with_node roots tree path node.Dir open_to
 
 pub step_shown : (roots : Roots) → AreApart roots → (key : Key) → is_key key ≡ true → (tree : Tree)
-    → public_tree roots (place_step (places_of roots key) tree) ≡ add_step roots key (public_tree roots tree)
+    → public_tree roots (place_step (package_places roots key) tree) ≡ add_step roots key (public_tree roots tree)
 unfolding add_step
 step_shown roots apart key good tree =
     let open_to = are_public roots apart key good in
-    let places = places_of roots key in
+    let places = package_places roots key in
     public_tree-with_node roots _ places.link _ open_to.link
     ∙ ap (with_node places.link (node.Link places.text)) (public-with_directory roots places.version _ open_to.version
     ∙ ap (with_directory places.version) (public-with_directory roots places.module tree open_to.package_directory))
 
 pub step_keeps_foreign : (roots : Roots) → AreApart roots → (key : Key) → is_key key ≡ true → (tree : Tree)
-    → foreign_tree roots (place_step (places_of roots key) tree) ≡ foreign_tree roots tree
+    → foreign_tree roots (place_step (package_places roots key) tree) ≡ foreign_tree roots tree
 step_keeps_foreign roots apart key good tree =
     let open_to = are_public roots apart key good in
-    let places = places_of roots key in
+    let places = package_places roots key in
     foreign_tree-with_node roots _ places.link _ open_to.link ∙ foreign-with_directory roots places.version _ open_to.version
     ∙ foreign-with_directory roots places.module tree open_to.package_directory
 
 -- ---- what the step leaves
 
 -- the directory of the source stands as it did
-pub source_stays : (roots : Roots) → AreApart roots → (key : Key) → (tree : Tree) → node_at (place_step (places_of roots key) tree) (source_path roots key) ≡ node_at tree (source_path roots key)
+pub source_stays : (roots : Roots) → AreApart roots → (key : Key) → (tree : Tree) → node_at (place_step (package_places roots key) tree) (source_path roots key) ≡ node_at tree (source_path roots key)
 unfolding add_step
 source_stays roots apart key tree =
     stays roots key tree (source_path roots key) (outside _ (under-append roots.dkms (key.module ∷ [])))
@@ -159,9 +159,9 @@ source_stays roots apart key tree =
         let beside = elsewhere (source_path roots key) roots.src roots.dkms (apart-back roots.dkms roots.src (written_apart roots apart).dkms_src) (under-append roots.src _) in
         let impossible : true ≡ false = sym under ∙ ap (λ p. is_under p roots.dkms) (sym same) ∙ beside in cc
 
-pub dir_stays : (roots : Roots) → AreApart roots → (key : Key) → (places : Places) → places ≡ places_of roots key → (dir : Path) → dir ≡ places.source → (tree : Tree)
+pub dir_stays : (roots : Roots) → AreApart roots → (key : Key) → (places : Places) → places ≡ package_places roots key → (dir : Path) → dir ≡ places.source → (tree : Tree)
     → is_dir (node_at tree dir) ≡ true → is_dir (node_at (place_step places tree) dir) ≡ true
 dir_stays roots apart key places are dir at tree stands =
     let is : dir ≡ source_path roots key = at ∙ ap (λ (p : Places). p.source) are in
-    ap (λ (p : Places). is_dir (node_at (place_step p tree) dir)) are ∙ ap (λ q. is_dir (node_at (place_step (places_of roots key) tree) q)) is ∙ ap is_dir (source_stays roots apart key tree)
+    ap (λ (p : Places). is_dir (node_at (place_step p tree) dir)) are ∙ ap (λ q. is_dir (node_at (place_step (package_places roots key) tree) q)) is ∙ ap is_dir (source_stays roots apart key tree)
     ∙ ap (λ q. is_dir (node_at tree q)) (sym is) ∙ stands

@@ -33,16 +33,17 @@ use Rattle.kb_world.proofs.ThenLaws.{does_then, does_unread, does_read, does_war
 use Rattle.kb_conf.specs.declared.conf.Conf.{Conf}
 use Rattle.kb_conf.specs.declared.given.Given.{Given}
 use Rattle.kb_conf.specs.Given.{given_for}
-use Rattle.kb_conf.specs.Load.{after, loaded_conf}
+use Rattle.kb_conf.specs.Load.{loaded_conf}
+use Rattle.kb_world.specs.Read.{unless_due}
 use Rattle.kb_dkms.specs.declared.places.Places.{Places}
 use Rattle.kb_dkms.specs.Add.{add, add_with, add_and_run, already_added, source_conf, unused_lines, blocked, added_line}
-use Rattle.kb_dkms.specs.Host.{is_kernel_if_any, keeps_rules}
-use Rattle.kb_dkms.specs.Places.{places_of, standing, in_the_way, place_blocked, place_step, IsNested, IsFree, CanPlace}
+use Rattle.kb_dkms.specs.Host.{is_kernel_if_any, host_keeps_rules}
+use Rattle.kb_dkms.specs.Places.{package_places, standing, blocked_by, place_blocked, place_step, IsNested, IsFree, CanMakeLink}
 use Rattle.kb_dkms.specs.Scripts.{host_given, warning_line, run_script}
 use Rattle.kb_dkms.proofs.AddLaws.{standing_shown, standing_is_added, conf_shown, blocked_shown, step_shown, step_keeps_foreign}
 
 -- the kernel of a host that keeps its rules can name an entry of a directory
-pub kernel_named : (host : Host) → keeps_rules host ≡ true → (kernel : List ℕ) → host.kernel ≡ Some kernel → is_name kernel ≡ true
+pub kernel_named : (host : Host) → host_keeps_rules host ≡ true → (kernel : List ℕ) → host.kernel ≡ Some kernel → is_name kernel ≡ true
 kernel_named host good kernel is =
     let kept : is_kernel kernel ≡ true = sym (ap is_kernel_if_any is) ∙ first_so (is_kernel_if_any host.kernel) (is_arch host.arch) good in
     let marked = first_so (is_word kernel && not (bytes_eq kernel (codes "build"))) (not (bytes_eq kernel (codes "source"))) kept in
@@ -51,7 +52,7 @@ kernel_named host good kernel is =
 -- ---- when the link can be made
 
 -- the parts of a package stand in one another
-pub nested : (roots : Roots) (key : Key) → IsNested (places_of roots key)
+pub nested : (roots : Roots) (key : Key) → IsNested (package_places roots key)
 nested roots key = record { version = key.version; link = _; version_is = refl; link_is = refl }
 
 nothing_stands : (key : Key) (link : Path) (tree : Tree) → standing key link tree ≡ None → node_at tree link ≡ None
@@ -61,7 +62,7 @@ nothing_stands key link tree e = by_case (node_at tree link) refl
     by_case None is = is
     by_case (Some x) is = let impossible : Some (refusal.AlreadyAdded key) ≡ None = sym (ap (λ (at : Option Node). cond (is_some at) (Some (refusal.AlreadyAdded key)) None) is) ∙ e in cc
 
-pub is_free : (roots : Roots) (key : Key) (tree : Tree) → is_dir (node_at tree roots.dkms) ≡ true → standing key (link_path roots key) tree ≡ None → IsFree (places_of roots key) tree
+pub is_free : (roots : Roots) (key : Key) (tree : Tree) → is_dir (node_at tree roots.dkms) ≡ true → standing key (link_path roots key) tree ≡ None → IsFree (package_places roots key) tree
 is_free roots key tree root none = record {
   in_root = ap (λ p. is_dir (node_at tree p)) (parent-child roots.dkms key.module) ∙ root;
   link_free = nothing_stands key (link_path roots key) tree none;
@@ -75,18 +76,18 @@ nothing_second : {A : Type 0} (a b : Option A) → option_or a b ≡ None → b 
 nothing_second None b e = e
 nothing_second (Some x) b e = let impossible : Some x ≡ None = e in cc
 
-unblocked : (path : Path) (tree : Tree) → in_the_way path tree ≡ None → blocking path tree ≡ None
+unblocked : (path : Path) (tree : Tree) → blocked_by path tree ≡ None → blocking path tree ≡ None
 unblocked path tree e = by_case (blocking path tree) refl
   where
     by_case : (at : Option Path) → blocking path tree ≡ at → blocking path tree ≡ None
     by_case None is = is
     by_case (Some x) is = let impossible : Some (refusal.Damaged x) ≡ None = sym (ap (option_map refusal.Damaged) is) ∙ e in cc
 
-pub can_place : (places : Places) (tree : Tree) → IsFree places tree → place_blocked places tree ≡ None → CanPlace places tree
+pub can_place : (places : Places) (tree : Tree) → IsFree places tree → place_blocked places tree ≡ None → CanMakeLink places tree
 can_place places tree free none = record {
   free = free;
-  module_free = unblocked places.module tree (nothing_first _ (in_the_way places.version tree) none);
-  version_free = unblocked places.version tree (nothing_second (in_the_way places.module tree) _ none);
+  module_free = unblocked places.module tree (nothing_first _ (blocked_by places.version tree) none);
+  version_free = unblocked places.version tree (nothing_second (blocked_by places.module tree) _ none);
 }
 
 -- where a conf was loaded its directory stands
@@ -94,7 +95,7 @@ pub loaded_dir : (dir : Path) (key : Option Key) (given : Given) (tree : Tree) (
 unfolding loaded_conf
 loaded_dir dir key given tree conf e = by_test (is_dir (node_at tree dir)) _ _ e
   where
-    by_test : (b : Bool) (second : Option Refusal) (said : Result Conf Refusal) → after (option_or (cond b None (Some (refusal.NoSource dir))) second) said ≡ Ok conf → b ≡ true
+    by_test : (b : Bool) (second : Option Refusal) (said : Result Conf Refusal) → unless_due (option_or (cond b None (Some (refusal.NoSource dir))) second) said ≡ Ok conf → b ≡ true
     by_test true second said e = refl
     by_test false second said e = let impossible : ◌≡◌ {A = Result Conf Refusal} (Err (refusal.NoSource dir)) (Ok conf) = e in cc
 
@@ -108,7 +109,7 @@ does_failed roots action change old new before after Fault t = record { answers 
 does_failed roots action change old new before after NoMemory t = record { answers = λ tree told rooted. tt; lasts = t.ran_none.lasts; cause = t.cause }
 
 -- the link stands, and then the script is run
-pub added_and_ran : (host : Host) → AreApart host.roots → (key : Key) → is_key key ≡ true → (conf : Conf) (given : Given) → given ≡ host_given host → (places : Places) → places ≡ places_of host.roots key
+pub added_and_ran : (host : Host) → AreApart host.roots → (key : Key) → is_key key ≡ true → (conf : Conf) (given : Given) → given ≡ host_given host → (places : Places) → places ≡ package_places host.roots key
     → (asked : Option (List ℕ)) → asked ≡ conf.scripts.post_add → (old mid new : State) (before between after : Report) (result : Result (Unit {0}) Stop) → Transforms (place_step places) {T = Unit {0}} old mid (Ok tt)
     → (line : List ℕ) → line ≡ added_line key → between.out ≡ before.out ++ line → between.err ≡ before.err
     → Does host.roots (run_script host.roots mid.script given key (codes "POST_ADD") asked) mid new between after result
@@ -138,11 +139,11 @@ one_more names i d name before err more line lt named so_far is pushed =
     pushed ∙ ap (λ t. err ++ t) told ∙ ap (λ t. t ++ unused_lines (last ∷ [])) so_far ∙ append_assoc before (unused_lines (take i names)) (unused_lines (last ∷ [])) ∙ ap (λ t. before ++ t) (sym joined)
 
 -- what is in the way is that of the public tree
-read_blocked : (roots : Roots) → AreApart roots → (key : Key) → is_key key ≡ true → (places : Places) → places ≡ places_of roots key → (tree : Tree)
+read_blocked : (roots : Roots) → AreApart roots → (key : Key) → is_key key ≡ true → (places : Places) → places ≡ package_places roots key → (tree : Tree)
     → place_blocked places tree ≡ blocked roots key (public_tree roots tree)
 read_blocked roots apart key good places are tree = ap (λ (p : Places). place_blocked p tree) are ∙ blocked_shown roots apart key good tree
 
-pub warned_blocked : (host : Host) → AreApart host.roots → (key : Key) → is_key key ≡ true → (script : Script) (conf : Conf) (places : Places) → places ≡ places_of host.roots key
+pub warned_blocked : (host : Host) → AreApart host.roots → (key : Key) → is_key key ≡ true → (script : Script) (conf : Conf) (places : Places) → places ≡ package_places host.roots key
     → (old mid : State) (before after : Report) (stop : Stop) → after.out ≡ before.out → (names : List (List ℕ)) → names ≡ conf.unused
     → after.err ≡ before.err ++ unused_lines names
     → Decides (place_blocked places) {T = Unit {0}} old mid (Err stop) → Does host.roots (add_with host script key conf) {T = Unit {0}} old mid before after (Err stop)
@@ -152,7 +153,7 @@ warned_blocked host apart key good script conf places are old mid before after s
     (does_warn roots (unused_lines conf.unused) old before after out (err ∙ ap (λ n. before.err ++ unused_lines n) all))
     (does_refused roots (place_blocked places) (blocked roots key) (add_and_run host script key conf) old mid after stop (read_blocked roots apart key good places are) d)
 
-pub warned_added : (host : Host) → AreApart host.roots → (key : Key) → is_key key ≡ true → (conf : Conf) (places : Places) → places ≡ places_of host.roots key
+pub warned_added : (host : Host) → AreApart host.roots → (key : Key) → is_key key ≡ true → (conf : Conf) (places : Places) → places ≡ package_places host.roots key
     → (old mid new : State) (before between after : Report) (result : Result (Unit {0}) Stop) → between.out ≡ before.out → (names : List (List ℕ)) → names ≡ conf.unused
     → between.err ≡ before.err ++ unused_lines names
     → Decides (place_blocked places) {T = Unit {0}} old mid (Ok tt) → Does host.roots (add_and_run host mid.script key conf) mid new between after result

@@ -5,7 +5,7 @@ use Rattle.kb_world.specs.Tree.{Tree, node_at, is_dir, CanMake}
 use Rattle.kb_world.specs.Steps.{with_directory}
 use Rattle.kb_world.proofs.StepLaws.{parent-child, child-other, grandchild-other, directory-here, directory-apart, blocking-same}
 use Rattle.kb_dkms.specs.declared.places.Places.{Places}
-use Rattle.kb_dkms.specs.Places.{IsNested, CanPlace}
+use Rattle.kb_dkms.specs.Places.{IsNested, CanMakeLink}
 
 parent_of_child : (path above : Path) (name : List ℕ) → path ≡ child above name → parent path ≡ above
 parent_of_child path above name is = ap parent is ∙ parent-child above name
@@ -13,12 +13,12 @@ parent_of_child path above name is = ap parent is ∙ parent-child above name
 other_than : (path above : Path) (name : List ℕ) → path ≡ child above name → path ≢ above
 other_than path above name is same = child-other above name (sym is ∙ same)
 
-pub version_ready : (places : Places) → IsNested places → (tree : Tree) → CanPlace places tree → is_dir (node_at (with_directory places.module tree) (parent places.version)) ≡ true
+pub version_ready : (places : Places) → IsNested places → (tree : Tree) → CanMakeLink places tree → is_dir (node_at (with_directory places.module tree) (parent places.version)) ≡ true
 version_ready places nested tree can =
     ap (λ p. is_dir (node_at (with_directory places.module tree) p)) (parent_of_child places.version places.module nested.version nested.version_is)
     ∙ directory-here places.module tree can.module_free
 
-pub link_ready : (places : Places) → IsNested places → (tree : Tree) → CanPlace places tree → CanMake (with_directory places.version (with_directory places.module tree)) places.link
+pub link_ready : (places : Places) → IsNested places → (tree : Tree) → CanMakeLink places tree → CanMake (with_directory places.version (with_directory places.module tree)) places.link
 link_ready places nested tree can =
     let once = with_directory places.module tree in
     let above = other_than places.version places.module nested.version nested.version_is in

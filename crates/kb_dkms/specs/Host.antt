@@ -8,5 +8,5 @@ is_kernel_if_any None = true
 is_kernel_if_any (Some kernel) = is_kernel kernel
 
 -- its kernel, where it is known, and its architecture keep their rules
-abbrev pub keeps_rules : Host → Bool
-keeps_rules host = is_kernel_if_any host.kernel && is_arch host.arch
+abbrev pub host_keeps_rules : Host → Bool
+host_keeps_rules host = is_kernel_if_any host.kernel && is_arch host.arch

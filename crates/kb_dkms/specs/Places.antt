@@ -13,8 +13,8 @@ use Rattle.kb_world.specs.declared.refusal.Refusal.{Refusal}
 use Rattle.kb_world.specs.declared.refusal.Refusal.TheVariants as refusal
 use Rattle.kb_dkms.specs.declared.places.Places.{Places}
 
-abbrev pub places_of : Roots → Key → Places
-places_of roots key = record {
+abbrev pub package_places : Roots → Key → Places
+package_places roots key = record {
   «module» = module_path roots key;
   version = version_path roots key;
   link = link_path roots key;
@@ -27,11 +27,11 @@ abbrev pub standing : Key → Path → Tree → Option Refusal
 standing key link tree = cond (is_some (node_at tree link)) (Some (refusal.AlreadyAdded key)) None
 
 -- something else stands where the step needs a directory
-abbrev pub in_the_way : Path → Tree → Option Refusal
-in_the_way path tree = option_map refusal.Damaged (blocking path tree)
+abbrev pub blocked_by : Path → Tree → Option Refusal
+blocked_by path tree = option_map refusal.Damaged (blocking path tree)
 
 abbrev pub place_blocked : Places → Tree → Option Refusal
-place_blocked places = in_the_way places.module or in_the_way places.version
+place_blocked places = blocked_by places.module or blocked_by places.version
 
 -- each stands in the one before
 pub record IsNested (places : Places) : Type 0 where
@@ -46,7 +46,7 @@ pub record IsFree (places : Places) (tree : Tree) : Type 0 where
   pub link_free : node_at tree places.link ≡ None
 
 -- the link can be made once its directories are there
-pub record CanPlace (places : Places) (tree : Tree) : Type 0 where
+pub record CanMakeLink (places : Places) (tree : Tree) : Type 0 where
   pub free : IsFree places tree
   pub module_free : blocking places.module tree ≡ None
   pub version_free : blocking places.version tree ≡ None

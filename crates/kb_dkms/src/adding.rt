@@ -8,8 +8,8 @@ ghost use Rattle.kb_world.specs.Store.{is_key};
 ghost use Rattle.kb_world.specs.Damage.{hurt};
 ghost use Rattle.kb_world.specs.Does.{Does};
 ghost use Rattle.kb_dkms.specs.Add as action;
-ghost use Rattle.kb_dkms.specs.Host.{keeps_rules};
-ghost use Rattle.kb_dkms.specs.Places.{places_of, IsFree, CanPlace};
+ghost use Rattle.kb_dkms.specs.Host.{host_keeps_rules};
+ghost use Rattle.kb_dkms.specs.Places.{package_places, IsFree, CanMakeLink};
 ghost use Rattle.kb_dkms.specs.Scripts.{host_given};
 
 use crate::places::{Places, find_places, make_link, require_unadded, require_unblocked};
@@ -41,9 +41,9 @@ fn add_and_run<W: World>(
     requires named { IsTrue (is_key source.key.now) }
     requires apart { AreApart source.host.now.roots }
     requires given { source.given.now ≡ host_given source.host.now }
-    requires places { places.now ≡ places_of source.host.now.roots source.key.now }
+    requires places { places.now ≡ package_places source.host.now.roots source.key.now }
     requires dir { source.dir.now ≡ places.now.source }
-    requires free { ForSome (W.state world.old).tree (CanPlace places.now) }
+    requires free { ForSome (W.state world.old).tree (CanMakeLink places.now) }
     requires there { ForSome (W.state world.old).tree (λ tree. is_dir (node_at tree source.dir.now) ≡ true) }
     ensures { Does source.entry.host.now.roots (action.add_and_run source.entry.host.now (W.state world.old).script source.entry.key.now conf.now) (W.state world.old) (W.state world.new) report.old report.new result }
 {
@@ -77,7 +77,7 @@ fn add_with<W: World>(
     requires named { IsTrue (is_key source.key.now) }
     requires apart { AreApart source.host.now.roots }
     requires given { source.given.now ≡ host_given source.host.now }
-    requires places { places.now ≡ places_of source.host.now.roots source.key.now }
+    requires places { places.now ≡ package_places source.host.now.roots source.key.now }
     requires dir { source.dir.now ≡ places.now.source }
     requires free { ForSome (W.state world.old).tree (IsFree places.now) }
     requires there { ForSome (W.state world.old).tree (λ tree. is_dir (node_at tree source.dir.now) ≡ true) }
@@ -102,7 +102,7 @@ pub fn add<W: World>(
     key: &Key,
 ) -> Result<(), Stop>
     requires named { IsTrue (is_key key.now) }
-    requires known { IsTrue (keeps_rules job.now.host) }
+    requires known { IsTrue (host_keeps_rules job.now.host) }
     requires apart { AreApart job.now.host.roots }
     requires root { ForSome (W.state world.old).tree (λ tree. is_dir (node_at tree job.now.host.roots.dkms) ≡ true) }
     requires sound { ForSome (W.state world.old).tree (λ tree. hurt job.now.host.roots (public_tree job.now.host.roots tree) ≡ None) }

@@ -6,7 +6,7 @@ ghost use Rattle.kb_world.specs.Tree.{node_at, is_dir};
 ghost use Rattle.kb_world.specs.Steps.{with_directory};
 ghost use Rattle.kb_world.specs.Does.{Decides, Transforms};
 ghost use Rattle.kb_world.specs.Store.{is_key};
-ghost use Rattle.kb_dkms.specs.Places.{places_of, standing, in_the_way, place_blocked, place_step, IsNested, CanPlace};
+ghost use Rattle.kb_dkms.specs.Places.{package_places, standing, blocked_by, place_blocked, place_step, IsNested, CanMakeLink};
 
 use kb_world::{Key, Kind, Path, Refusal, Roots, Stop, Text, World};
 use std::alloc::{AllocError, Global};
@@ -24,7 +24,7 @@ pub(crate) struct Places {
 
 pub(crate) fn find_places(alloc: Global, roots: &Roots, key: &Key) -> Result<Places, AllocError>
     requires { IsTrue (is_key key.now) }
-    ensures { IfOk result (λ places. places ≡ places_of roots.now key.now) }
+    ensures { IfOk result (λ places. places ≡ package_places roots.now key.now) }
 {
     let name = format!(in alloc; "{}-{}", key.module, key.version)?;
     let source = roots.src.child(alloc, &name)?;
@@ -56,7 +56,7 @@ pub(crate) fn require_unadded<W: World>(
 
 // Refused where a file or a link stands at the path.
 fn require_passable<W: World>(alloc: Global, world: &mut W, path: &Path) -> Result<(), Stop>
-    ensures { Decides (in_the_way path.now) (W.state world.old) (W.state world.new) result }
+    ensures { Decides (blocked_by path.now) (W.state world.old) (W.state world.new) result }
 {
     match world.look(alloc, path)? {
         Kind::Absent | Kind::Dir => Ok(()),
@@ -92,7 +92,7 @@ fn ensure_directory<W: World>(alloc: Global, world: &mut W, path: &Path) -> Resu
 /// Makes the version's link, and the directories above it that aren't there.
 pub(crate) fn make_link<W: World>(alloc: Global, world: &mut W, places: &Places) -> Result<(), Stop>
     requires nested { IsNested places.now }
-    requires free { ForSome (W.state world.old).tree (CanPlace places.now) }
+    requires free { ForSome (W.state world.old).tree (CanMakeLink places.now) }
     ensures { Transforms (place_step places.now) (W.state world.old) (W.state world.new) result }
 {
     ensure_directory(alloc, world, &places.module)?;

@@ -4,7 +4,7 @@ use Rattle.std.specs.Prelude.{Result, Ok, Err, codes}
 use Rattle.std.specs.Option.{option_or}
 use Rattle.std.specs.Cmp.Derive.{both_true}
 use Rattle.kb_world.specs.Names.{is_kernel, is_arch}
-use Rattle.kb_dkms.specs.Host.{is_kernel_if_any, keeps_rules}
+use Rattle.kb_dkms.specs.Host.{is_kernel_if_any, host_keeps_rules}
 use Rattle.std.proofs.lemmas.List.{append-nil}
 use Rattle.kb_world.specs.Tree.{Tree, node_at, is_dir}
 use Rattle.kb_world.specs.Roots.{AreApart}
@@ -68,7 +68,7 @@ arch_keeps arch = by (is_arch arch) refl
     by true e = e
     by false e = refl
 
-pub known_keeps_rules : (host : Host) → keeps_rules (known_host host) ≡ true
+pub known_keeps_rules : (host : Host) → host_keeps_rules (known_host host) ≡ true
 known_keeps_rules host = both_true (kernel_keeps host.kernel) (arch_keeps host.arch)
 
 -- ---- help

@@ -6,7 +6,7 @@ ghost use Rattle.kb_world.specs.Roots.{AreApart};
 ghost use Rattle.kb_world.specs.Store.{is_key};
 ghost use Rattle.kb_world.specs.Tree.{node_at, is_dir};
 ghost use Rattle.kb_world.specs.Does.{Decides, Does};
-ghost use Rattle.kb_dkms.specs.Host.{keeps_rules};
+ghost use Rattle.kb_dkms.specs.Host.{host_keeps_rules};
 ghost use Rattle.kb_words.specs.Words as words;
 ghost use Rattle.kb_top.specs.Machine.{no_root, standing_intent, no_roots_of_add, help_text, known_kernel, known_arch, known_host, add_to_store, perform};
 ghost use Rattle.kb_top.specs.Serve.{Serves};
@@ -111,7 +111,7 @@ fn add_to_store<W: World>(
     key: &Key,
 ) -> Result<(), Stop>
     requires named { IsTrue (is_key key.now) }
-    requires known { IsTrue (keeps_rules job.now.host) }
+    requires known { IsTrue (host_keeps_rules job.now.host) }
     requires apart { AreApart job.now.host.roots }
     requires root { ForSome (W.state world.old).tree (λ tree. is_dir (node_at tree job.now.host.roots.dkms) ≡ true) }
     ensures { Does job.now.host.roots (add_to_store job.now.host (W.state world.old).script key.now) (W.state world.old) (W.state world.new) report.old report.new result }
@@ -129,7 +129,7 @@ fn perform<W: World>(
     command: &Command,
 ) -> Result<(), Stop>
     requires named { words.names_keep_rules command.now ≡ true }
-    requires known { IsTrue (keeps_rules job.now.host) }
+    requires known { IsTrue (host_keeps_rules job.now.host) }
     requires apart { AreApart job.now.host.roots }
     ensures { Does job.now.host.roots (perform job.now.host (W.state world.old).script command.now) (W.state world.old) (W.state world.new) report.old report.new result }
 {

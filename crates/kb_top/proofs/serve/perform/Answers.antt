@@ -4,7 +4,7 @@ use Rattle.std.proofs.lemmas.Result.{err_from_is_err_and}
 use Rattle.kb_world.specs.Does.{Does}
 use Rattle.kb_world.specs.Script.{Script}
 use Rattle.kb_world.proofs.DoesLaws.{does_refused, does_passed}
-use Rattle.kb_words.specs.Words.{keeps_rules}
+use Rattle.kb_words.specs.Words.{names_keep_rules}
 use Rattle.kb_top.specs.Machine.{no_roots_of_add, add_to_store, help_text}
 use Rattle.kb_top.proofs.ServeLaws.{roots_shown, dkms_there, help_printed}
 use Rattle.kb_top.proofs.serve.perform.Goals as goal
@@ -17,7 +17,7 @@ returns-in_err-require_roots_of_add-in-Add g c =
     c.in_err-require_roots_of_add-in-Add.field-0.0 (roots_shown roots c.requires.apart) c.in_err-require_roots_of_add-in-Add.ensures)
 
 pub add_to_store-requires-clause-named : goal.add_to_store-requires-clause-named
-add_to_store-requires-clause-named g c = sym (ap keeps_rules c.in-Add.is) ∙ c.requires.named
+add_to_store-requires-clause-named g c = sym (ap names_keep_rules c.in-Add.is) ∙ c.requires.named
 
 pub add_to_store-requires-clause-root : goal.add_to_store-requires-clause-root
 add_to_store-requires-clause-root g c now told =

@@ -4,7 +4,7 @@ use Rattle.std.proofs.lemmas.Result.{err_from_is_err_and}
 use Rattle.kb_world.specs.Does.{Does}
 use Rattle.kb_world.specs.Roots.{AreApart}
 use Rattle.kb_world.specs.declared.job.Host.{Host}
-use Rattle.kb_dkms.specs.Host.{keeps_rules}
+use Rattle.kb_dkms.specs.Host.{host_keeps_rules}
 use Rattle.kb_words.proofs.PlaceLaws.{named}
 use Rattle.kb_top.specs.Machine.{known_host, perform}
 use Rattle.kb_top.proofs.ServeLaws.{known_keeps_rules, serves_damaged, serves_unread, serves_wanting, serves_done}
@@ -29,7 +29,7 @@ pub perform-requires-clause-named : goal.perform-requires-clause-named
 perform-requires-clause-named g c = named c.args.words.now c.in_ok-command.command c.in_ok-command.ensures
 
 pub perform-requires-clause-known : goal.perform-requires-clause-known
-perform-requires-clause-known g c = ap keeps_rules c.in_ok-job.ensures ∙ known_keeps_rules c.args.host.now
+perform-requires-clause-known g c = ap host_keeps_rules c.in_ok-job.ensures ∙ known_keeps_rules c.args.host.now
 
 pub perform-requires-clause-apart : goal.perform-requires-clause-apart
 perform-requires-clause-apart g c = subst (λ (h : Host). AreApart h.roots) (sym c.in_ok-job.ensures) c.requires
