@@ -13,4 +13,4 @@ mod tests;
 pub use call::{run, start};
 pub use end::End;
 pub use laws::settings_are_good_or_bad;
-pub use setting::Setting;
+pub use setting::{Setting, SettingError, host_of};
