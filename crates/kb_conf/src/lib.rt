@@ -28,6 +28,7 @@ pub use conf::{Conf, Patch, Patches, Scripts, Target, Targets};
 pub use given::Given;
 pub use laws::{assigns_text, meaning_is_computed, one_meaning};
 pub use load::load_conf;
+pub use pattern::{is_pattern, matches};
 pub use read::read_conf;
 pub use reading::{ReadError, read_text, without_returns};
 pub use table::{Assignment, Table};

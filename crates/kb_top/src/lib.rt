@@ -11,4 +11,4 @@ mod tell;
 pub use call::{run, start};
 pub use end::End;
 pub use laws::settings_are_good_or_bad;
-pub use setting::Setting;
+pub use setting::{Setting, SettingError, host_of};

@@ -1,0 +1,158 @@
+// A scene is played: its world is made, and its lines are done one by one.
+ghost use Rattle.std.specs.Prelude.{IfOk};
+ghost use Rattle.kb_world.specs.Roots.{AreApart};
+
+use crate::ask::{given_for, print_answer};
+use crate::conf::print_conf;
+use crate::edit::{fill, place, place_zeros, remove};
+use crate::error::{BadLine, LineError};
+use crate::line::{Action, Show};
+use crate::run::{Failures, run};
+use crate::scene::{Scene, Step, usual_setting};
+use crate::show::{print_requests, print_tree};
+use crate::store::{print_claimant, print_store};
+use crate::text::Page;
+use kb_memory::MemoryWorld;
+use kb_top::{Setting, SettingError, host_of};
+use kb_world::{EffectRow, Host};
+use std::alloc::{AllocError, Global};
+use std::mem;
+
+// What changes from line to line, besides the world.
+#[derive(Drop)]
+struct Progress {
+    failures: Failures,
+    // how many requests were printed
+    told: usize,
+}
+
+fn usual_machine(alloc: Global) -> Result<Host, AllocError>
+    ensures { IfOk result (λ host. AreApart host.roots) }
+{
+    let setting = usual_setting(alloc)?;
+    match host_of(alloc, &setting) {
+        Ok(host) => Ok(host),
+        Err(_) => Err(AllocError),
+    }
+}
+
+// The machine that the setting tells of; the usual one where it tells of none.
+fn machine(alloc: Global, setting: &Setting) -> Result<Host, AllocError>
+    ensures { IfOk result (λ host. AreApart host.roots) }
+{
+    match host_of(alloc, setting) {
+        Ok(host) => Ok(host),
+        Err(SettingError::NoMemory) => Err(AllocError),
+        Err(SettingError::BadRoot | SettingError::BadBoot) => usual_machine(alloc),
+    }
+}
+
+// It says nothing of the world that it makes, so that nothing has to be carried along.
+fn world_of(alloc: Global, host: &Host, rows: Vec<EffectRow>) -> Result<MemoryWorld, AllocError> {
+    MemoryWorld::new(alloc, host.roots.clone()?, rows)
+}
+
+// Prints what the world has.
+fn print(
+    alloc: Global,
+    world: &mut MemoryWorld,
+    host: &Host,
+    progress: &mut Progress,
+    show: Show,
+    page: &mut Page,
+) -> Result<(), LineError>
+    requires { AreApart host.now.roots }
+{
+    match show {
+        Show::Tree(path) => print_tree(alloc, world, path, page),
+        Show::Requests => {
+            progress.told = print_requests(alloc, world, progress.told, page)?;
+            Ok(())
+        }
+        Show::Store => print_store(alloc, world, &host.roots, page),
+        Show::Claimant(claimed) => print_claimant(alloc, world, &host.roots, &claimed, page),
+        Show::Conf(path) => {
+            let given = given_for(alloc, host)?;
+            print_conf(alloc, world, &path, &given, page)
+        }
+    }
+}
+
+// Does what a line says.
+fn act(
+    alloc: Global,
+    world: &mut MemoryWorld,
+    setting: &Setting,
+    host: &Host,
+    progress: &mut Progress,
+    action: Action,
+    page: &mut Page,
+) -> Result<(), LineError>
+    requires { AreApart host.now.roots }
+{
+    match action {
+        Action::Place { path, node } => place(alloc, world, &path, node),
+        Action::Zeros { path, count } => place_zeros(alloc, world, &path, count),
+        Action::Fill { path, count } => fill(alloc, world, &path, count),
+        Action::Remove(path) => remove(alloc, world, &path),
+        Action::Fail { target, calls } => Ok(progress.failures.add(target, &calls)?),
+        Action::Run(words) => {
+            let failures = mem::replace(&mut progress.failures, Failures::none(alloc));
+            Ok(run(alloc, world, setting, &words, failures, page)?)
+        }
+        Action::Show(show) => print(alloc, world, host, progress, show, page),
+        Action::Ask(ask) => print_answer(alloc, page, &ask, &given_for(alloc, host)?),
+    }
+}
+
+fn act_all(
+    alloc: Global,
+    world: &mut MemoryWorld,
+    setting: &Setting,
+    host: &Host,
+    steps: Vec<Step>,
+    page: &mut Page,
+) -> Result<(), BadLine>
+    requires { AreApart host.now.roots }
+{
+    let mut progress = Progress {
+        failures: Failures::none(alloc),
+        told: 0,
+    };
+    for Step { line, action } in steps {
+        match act(alloc, world, setting, host, &mut progress, action, page) {
+            Ok(()) => {}
+            Err(cause) => return Err(BadLine { line, cause }),
+        }
+    }
+    Ok(())
+}
+
+// The world and the machine of a scene.
+fn set_stage(
+    alloc: Global,
+    setting: &Setting,
+    rows: Vec<EffectRow>,
+) -> Result<(MemoryWorld, Host), AllocError>
+    ensures { IfOk result (λ made. AreApart made.1.roots) }
+{
+    let host = machine(alloc, setting)?;
+    Ok((world_of(alloc, &host, rows)?, host))
+}
+
+/// Plays a scene, and prints on the page what its lines print.
+pub fn play_scene(alloc: Global, scene: Scene, page: &mut Page) -> Result<(), BadLine> {
+    let Scene {
+        setting,
+        rows,
+        steps,
+        ..
+    } = scene;
+    match set_stage(alloc, &setting, rows) {
+        Ok((mut world, host)) => act_all(alloc, &mut world, &setting, &host, steps, page),
+        Err(error) => Err(BadLine {
+            line: 0,
+            cause: LineError::Memory(error),
+        }),
+    }
+}
