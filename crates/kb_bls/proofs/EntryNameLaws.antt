@@ -1,7 +1,7 @@
 -- The reading of names is what the relation says.
-use Rattle.std.proofs.Common.{◌≡◌, ◌≢◌, ℕ, zero, suc, ◌+◌, ◌-◌, ◌^◌, ◌<◌, ◌≤◌, Bool, true, false, cond, not, ◌&&◌, ◌==◌, List, [], ◌∷◌, ◌++◌, length, take, drop, nat_eq, nat_lt, nat_le, Option, Some, None, option_map, option_and_then, Result, Ok, Err, IfOk, MatchOption, Bor, codes, bytes_eq, refl, sym, ap, ◌∙◌, subst, inl, inr, ◌⊎◌, arith, lit<, append_assoc}
+use Rattle.std.proofs.Common.{◌≡◌, ℕ, ◌-◌, ◌^◌, ◌<◌, ◌≤◌, Bool, true, false, cond, ◌==◌, List, [], ◌∷◌, ◌++◌, length, take, drop, nat_lt, nat_le, Option, Some, None, option_map, option_and_then, MatchOption, Bor, codes, bytes_eq, refl, sym, ap, ◌∙◌, subst, inl, inr, arith, lit<, append_assoc}
 use Rattle.std.specs.List.{list_all}
-use Rattle.std.specs.Char.{is_ascii_digit, is_ascii_alphanumeric}
+use Rattle.std.specs.Char.{is_ascii_digit}
 use Rattle.std.specs.Fmt.{decimal}
 use Rattle.std.specs.Option.{unwrap_or}
 use Rattle.std.specs.Str.{byte}
@@ -18,10 +18,10 @@ use Rattle.std.proofs.lemmas.List.Folds.{list_all-append}
 use Rattle.kb_world.specs.Names.{is_one_of}
 use Rattle.kb_bls.specs.declared.name.Counter.{Counter}
 use Rattle.kb_bls.specs.declared.name.Counter.TheVariants.{Good, Left}
-use Rattle.kb_bls.specs.Names.{is_number, Writes, IsLeft, IsLeftDone, IsEnding, has_name_bytes, IsBase, IsEntryName, IsCountable, counter_text, name_of}
+use Rattle.kb_bls.specs.Names.{is_number, Writes, IsEnding, has_name_bytes, IsBase, IsEntryName, IsCountable, counter_text, name_of}
 use Rattle.kb_bls.specs.Reading.{Cut, cut_first, cut_last, number_in, left_with, counter_of_parts, counter_in, Reading, counted_at, counted, if_based, stem_reading, name_reading}
-use Rattle.kb_bls.proofs.EndLaws.{by_test, not_both}
-use Rattle.kb_bls.proofs.NameLaws.{digits_model, short, IsShort, lacks, isnt, first_none, first_there, last_there, last_is, first_is, IsReading}
+use Rattle.kb_bls.proofs.EndLaws.{by_test}
+use Rattle.kb_bls.proofs.NameLaws.{digits_model, short, lacks, isnt, first_none, first_there, last_there, last_is, first_is, IsReading}
 
 -- ---- a counter is read from its ending
 

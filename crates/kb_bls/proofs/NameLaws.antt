@@ -1,9 +1,7 @@
 -- The reading of names is what the relation says.
-use Rattle.std.proofs.Common.{◌≡◌, ◌≢◌, ℕ, zero, suc, ◌+◌, ◌-◌, ◌^◌, ◌<◌, ◌≤◌, Bool, true, false, cond, not, ◌&&◌, List, [], ◌∷◌, ◌++◌, length, take, drop, get_or, nat_eq, nat_lt, nat_le, Option, Some, None, option_map, option_and_then, ◌==◌, Result, Ok, Err, IfOk, MatchOption, Bor, codes, refl, sym, ap, ◌∙◌, subst, inl, inr, ◌⊎◌, arith, lit<, append_assoc, rules, bytes_eq}
+use Rattle.std.proofs.Common.{◌≡◌, ◌≢◌, ℕ, suc, ◌+◌, ◌-◌, ◌^◌, ◌<◌, ◌≤◌, Bool, true, false, cond, not, ◌&&◌, List, [], ◌∷◌, ◌++◌, length, take, drop, get_or, nat_eq, nat_lt, nat_le, Option, Some, None, option_map, option_and_then, ◌==◌, Result, Ok, Err, MatchOption, Bor, refl, sym, ap, ◌∙◌, subst, arith, rules}
 use Rattle.std.specs.List.{list_all}
-use Rattle.std.specs.Char.{is_ascii_digit, is_ascii_alphanumeric}
-use Rattle.std.specs.Fmt.{decimal}
-use Rattle.std.specs.Option.{unwrap_or}
+use Rattle.std.specs.Char.{is_ascii_digit}
 use Rattle.std.specs.Result.{result_ok, OkIff}
 use Rattle.std.specs.Str.{byte, NoCharPasses}
 use Rattle.std.specs.Str.Parse.{digits_value, ParsesUnsigned}
@@ -12,15 +10,13 @@ use Rattle.std.specs.Cmp.{first_so, second_so}
 use Rattle.std.specs.Cmp.Derive.{both_true}
 use Rattle.std.proofs.lemmas.Bool.{eqb-true}
 use Rattle.std.proofs.lemmas.Bool.Decides.{nat_tests}
-use Rattle.std.proofs.lemmas.List.{take-append-drop, append_cancel_right}
-use Rattle.std.proofs.lemmas.List.Folds.{list_all-append}
+use Rattle.std.proofs.lemmas.List.{take-append-drop}
 use Rattle.std.proofs.lemmas.Str.Parse.{IsNumeralModel, numerals_by_value, parse_digits, digits_value_short}
 use Rattle.std.proofs.lemmas.Str.Pattern.{NoCharPasses-char, drop_at_char, IsSplitOnceResult, split_parts}
-use Rattle.kb_world.specs.Names.{is_one_of}
 use Rattle.kb_bls.specs.declared.name.Counter.{Counter}
-use Rattle.kb_bls.specs.declared.name.Counter.TheVariants.{Good, Left}
-use Rattle.kb_bls.specs.Names.{is_number, Writes, IsLeft, IsLeftDone, IsEnding, has_name_bytes, IsBase, IsEntryName, IsCountable, counter_text, name_of, IsTriedOnce}
-use Rattle.kb_bls.specs.Reading.{Cut, with_front, cut_first, cut_here, cut_last, number_in, left_with, counter_of_parts, counter_in, Reading, counted_at, counted, if_based, stem_reading, name_reading}
+use Rattle.kb_bls.specs.declared.name.Counter.TheVariants.{Left}
+use Rattle.kb_bls.specs.Names.{is_number, IsTriedOnce}
+use Rattle.kb_bls.specs.Reading.{Cut, with_front, cut_first, cut_here, cut_last, number_in, left_with, counter_of_parts, counter_in, Reading, counted_at, counted}
 use Rattle.kb_bls.proofs.EndLaws.{by_test, not_both}
 
 -- ---- tries

@@ -2,7 +2,7 @@
 use Rattle.std.proofs.Common.{◌≡◌, ℕ, Bool, List, ◌++◌, length, take, Option, Some, None, refl, sym, ap, ◌∙◌}
 use Rattle.std.proofs.Math.Seq.{take-append_seam}
 use Rattle.std.specs.declared.cmp.Ordering.{Ordering}
-use Rattle.std.specs.declared.cmp.Ordering.TheVariants.{Less, Equal, Greater}
+use Rattle.std.specs.declared.cmp.Ordering.TheVariants.{Less, Equal}
 use Rattle.std.specs.Cmp.{IsTotalOrder, IsStrictWeakOrder, bool_cmp_total}
 use Rattle.std.specs.Cmp.Lexicographic.{options_total}
 use Rattle.std.specs.Ordering.{ordering_reverse, is_lt}
@@ -10,7 +10,7 @@ use Rattle.std.proofs.lemmas.Cmp.{nat_list_cmp_total, on_total, then_total, back
 use Rattle.std.proofs.lemmas.List.Sorted.{ranks_by}
 use Rattle.kb_version.specs.OrderLaws.{version_order_total}
 use Rattle.kb_bls.specs.declared.order.Named.{Named}
-use Rattle.kb_bls.specs.Order.{SortFields, bytes_order, newest_first, none_last, base_of, has_no_try, sort_fields, sort_fields_order, entry_order}
+use Rattle.kb_bls.specs.Order.{newest_first, none_last, base_of, has_no_try, sort_fields, sort_fields_order, entry_order}
 
 module _ {T : Type 0} (order : T → T → Ordering) (total : IsTotalOrder order) where
   reversed : (x y : Option T) → none_last order x y ≡ ordering_reverse (none_last order y x)

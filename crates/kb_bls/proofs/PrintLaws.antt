@@ -1,6 +1,6 @@
 -- What is printed of an entry, and that it is read back.
-use Rattle.std.proofs.Common.{◌≡◌, ◌≢◌, ℕ, zero, suc, ◌+◌, ◌-◌, ◌<◌, ◌≤◌, Bool, true, false, cond, not, ◌&&◌, List, [], ◌∷◌, ◌++◌, length, map, flat_map, filter, All, reverse, take, replicate, nat_eq, nat_lt, bytes_eq, Option, Some, None, option_to_list, Result, Ok, Err, IfOk, IsUtf8, codes, refl, sym, ap, ◌∙◌, subst, inl, inr, ◌⊎◌, arith, Bor, append_assoc, ◌==◌}
-use Rattle.std.specs.List.{list_all, slice_split}
+use Rattle.std.proofs.Common.{◌≡◌, ◌≢◌, ℕ, zero, suc, ◌-◌, Bool, true, false, cond, not, ◌&&◌, List, [], ◌∷◌, ◌++◌, length, map, flat_map, filter, All, reverse, take, replicate, nat_eq, nat_lt, bytes_eq, Option, Some, None, option_to_list, Result, Ok, Err, IfOk, IsUtf8, codes, refl, sym, ap, ◌∙◌, subst, inl, inr, arith, Bor, append_assoc, ◌==◌}
+use Rattle.std.specs.List.{list_all}
 use Rattle.std.specs.Str.{byte}
 use Rattle.std.specs.Cmp.{first_so, second_so}
 use Rattle.std.specs.Cmp.Derive.{both_true}
@@ -322,7 +322,7 @@ own_trimmed v bytes begins ends = record {
   before_blank = refl;
   after_blank = refl;
   begins = begins;
-  ends = ends
+  ends = ends;
 }
 
 abbrev pub no_line_end : List ℕ → Bool
@@ -333,6 +333,7 @@ value_test v text some bytes trimmed = by_ends (begins_with is_blank v) (ends_wi
   where
     differs : (b : Bool) → b ≡ true → (text ≡ v → b ≡ false) → bytes_eq text v ≡ false
     differs b h fails = by_test (bytes_eq text v) (λ same. not_both b h (fails ((bytes_decides text v).0 same)))
+
     by_ends : (a b : Bool) → begins_with is_blank v ≡ a → ends_with is_blank v ≡ b → bytes_eq text v ≡ ((true && true) && not (begins_with is_blank v)) && not (ends_with is_blank v)
     by_ends true b e k = differs (begins_with is_blank v) e (λ same. subst (λ t. begins_with is_blank t ≡ false) same trimmed.begins) ∙ (λ i. not (sym e i) && not (ends_with is_blank v))
     by_ends false true e k = differs (ends_with is_blank v) k (λ same. subst (λ t. ends_with is_blank t ≡ false) same trimmed.ends) ∙ (λ i. not (sym e i) && not (sym k i))

@@ -1,5 +1,5 @@
 -- An entry is read line by line.
-use Rattle.std.proofs.Common.{◌≡◌, ℕ, List, [], ◌∷◌, ◌++◌, map, Bor, IsUtf8, refl, sym, ap, ◌∙◌, subst, inl, inr}
+use Rattle.std.proofs.Common.{◌≡◌, ℕ, List, [], ◌∷◌, ◌++◌, map, Bor, IsUtf8, refl, sym, subst, inl, inr}
 use Rattle.std.proofs.lemmas.List.{append-nil, map-append}
 use Rattle.kb_bls.specs.declared.entry.Entry.{Entry}
 use Rattle.kb_bls.specs.Fields.{Field, Says, SaysNothing, Say}

@@ -1,7 +1,6 @@
 -- A line says one thing, or nothing.
-use Rattle.std.proofs.Common.{◌≡◌, ◌≢◌, ℕ, suc, ◌<◌, ◌≤◌, Bool, true, false, not, ◌&&◌, ◌||◌, List, [], ◌∷◌, ◌++◌, length, reverse, take, drop, get_or, nat_eq, Option, Some, None, refl, sym, ap, ◌∙◌, subst, inl, inr, ◌⊎◌, arith, lit<, Bor, MatchOption, encode_utf8, append_assoc}
+use Rattle.std.proofs.Common.{◌≡◌, ◌≢◌, ℕ, suc, ◌<◌, Bool, true, false, not, List, [], ◌∷◌, ◌++◌, length, reverse, take, drop, get_or, nat_eq, Option, None, refl, sym, ap, ◌∙◌, subst, inl, inr, arith, lit<, Bor, MatchOption, append_assoc}
 use Rattle.std.specs.List.{list_all}
-use Rattle.std.specs.Char.{char_set_contains}
 use Rattle.std.specs.Str.{NoCharPasses, NonePass}
 use Rattle.std.specs.Str.Pattern.{FindsBy, SplitsAroundMatch, IsTrimStartMatches}
 use Rattle.std.specs.Cmp.{first_so, second_so}
@@ -9,12 +8,11 @@ use Rattle.std.specs.Cmp.Derive.{both_true}
 use Rattle.std.proofs.lemmas.Bool.{eqb-true}
 use Rattle.std.proofs.lemmas.Bool.Decides.{nat_tests}
 use Rattle.std.proofs.lemmas.List.{append-nil, take-append-drop, append_cancel_right, reverse-append, reverse-reverse}
-use Rattle.std.proofs.lemmas.List.Folds.{list_all-append}
 use Rattle.std.proofs.lemmas.Str.{encode_ascii}
 use Rattle.std.proofs.lemmas.Str.Pattern.{NoCharPasses-char}
 use Rattle.kb_bls.specs.Fields.{Field, CARRIAGE_RETURN, is_blank, are_blanks, has_no_blank, begins_with, ends_with, IsWithoutReturn, IsTrimmed, Says, SaysNothing, Say}
 use Rattle.kb_bls.proofs.EndLaws.{by_test, not_both, begins_at, ends_at}
-use Rattle.kb_bls.proofs.TrimLaws.{HasFront, IsBlankTest, FindsBlankFront, blank_ascii, blanks_append, set_is_blank, trimmed_front}
+use Rattle.kb_bls.proofs.TrimLaws.{IsBlankTest, FindsBlankFront, blank_ascii, blanks_append, set_is_blank, trimmed_front}
 
 -- two cuts of one list behind the elements that pass a test are the same
 pub record SameCut (front front' rest rest' : List ℕ) : Type 0 where

@@ -1,8 +1,8 @@
 -- What a trimmed line is.
-use Rattle.std.proofs.Common.{◌≡◌, ◌≢◌, ℕ, suc, ◌+◌, ◌-◌, ◌<◌, ◌≤◌, Bool, true, false, not, ◌&&◌, ◌||◌, List, [], ◌∷◌, ◌++◌, length, take, drop, nat_eq, Option, Some, None, refl, sym, ap, ◌∙◌, subst, inl, inr, ◌⊎◌, arith, lit<, Bor, MatchOption, encode_utf8, append_assoc}
+use Rattle.std.proofs.Common.{◌≡◌, ℕ, ◌+◌, ◌-◌, ◌<◌, Bool, true, false, List, [], ◌∷◌, ◌++◌, length, take, drop, nat_eq, Option, Some, None, refl, sym, ap, ◌∙◌, inl, inr, arith, lit<, Bor, MatchOption, encode_utf8, append_assoc}
 use Rattle.std.specs.Char.{char_set_contains, IsScalar, len_utf8}
 use Rattle.std.specs.Option.{unwrap_or}
-use Rattle.std.specs.Str.Pattern.{FindsCharSuffix, StripsSuffix, FindsPrefixBy, FindsSuffixBy, IsTrimStartMatches, IsTrimEndMatches, IsFullyTrimmed, CutsPrefixes, CutsSuffixes, HasCharAt, HasPassingCharAt}
+use Rattle.std.specs.Str.Pattern.{FindsCharSuffix, StripsSuffix, FindsPrefixBy, FindsSuffixBy, IsTrimStartMatches, IsTrimEndMatches, IsFullyTrimmed, CutsPrefixes, CutsSuffixes, HasPassingCharAt}
 use Rattle.std.specs.Cmp.Derive.{both_true}
 use Rattle.std.proofs.Math.Seq.{drop-length}
 use Rattle.std.proofs.lemmas.Bool.{eqb-true}

@@ -1,5 +1,5 @@
 -- How an entry is printed. The layout is this project's own; its lines are those of the Boot Loader Specification.
-use Rattle.std.specs.Prelude.{◌≡◌, ℕ, ◌-◌, Bool, true, ◌&&◌, not, List, [], ◌∷◌, ◌++◌, length, map, flat_map, replicate, nat_eq, nat_lt, codes}
+use Rattle.std.specs.Prelude.{ℕ, ◌-◌, Bool, ◌&&◌, not, List, [], ◌∷◌, ◌++◌, length, map, flat_map, replicate, nat_eq, nat_lt, codes}
 use Rattle.std.specs.List.{list_all}
 use Rattle.std.specs.Option.{option_to_list}
 use Rattle.std.specs.Str.{byte}

@@ -37,6 +37,9 @@ fn entries_are_sorted(rt: HostRuntime) -> Result<(), Fail> {
         names.push_str(named.name.as_str())?;
         names.push(' ')?;
     }
-    assert_eq!(rt; names.as_str(), "b.conf a.conf e+2-1.conf d.conf c+0-3.conf ");
+    assert_eq!(rt;
+        names.as_str(),
+        "b.conf a.conf e+2-1.conf d.conf c+0-3.conf "
+    );
     Ok(())
 }

@@ -1,5 +1,5 @@
 -- Behind the last plus sign stands a counter, or there is none.
-use Rattle.std.proofs.Common.{lit<, Some, None, ◌∙◌}
+use Rattle.std.proofs.Common.{lit<, Some, None}
 use Rattle.kb_bls.proofs.NameLaws.{last_found, reads_none, not_counted, counted_by}
 use Rattle.kb_bls.specs.Reading.{counted}
 use Rattle.kb_bls.proofs.name.counted.Goals as goal

@@ -1,6 +1,4 @@
 -- The name is a stem and its ending, or none.
-use Rattle.std.proofs.Common.{None}
-use Rattle.kb_bls.specs.Reading.{name_reading}
 use Rattle.kb_bls.proofs.EntryNameLaws.{name_told, stem_told, none_told, stripped}
 use Rattle.kb_bls.proofs.name.read_entry_name.Goals as goal
 
