@@ -1,0 +1,9 @@
+pub mod EndLaws
+pub mod TrimLaws
+pub mod SayLaws
+pub mod HasLaws
+pub mod PrintLaws
+pub mod ReadLaws
+pub mod NameLaws
+pub mod EntryNameLaws
+pub mod OrderLaws
