@@ -1,0 +1,10 @@
+pub mod FactsLaws
+pub mod LineLaws
+pub mod OptionsLaws
+pub mod SourceLaws
+pub mod SpellingLaws
+pub mod TokenLaws
+pub mod TriesLaws
+pub mod VariableLaws
+pub mod WarningLaws
+pub mod WorldLaws

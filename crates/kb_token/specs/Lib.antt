@@ -1,0 +1,10 @@
+pub mod Facts
+pub mod Layout
+pub mod Lines
+pub mod Only
+pub mod Options
+pub mod Release
+pub mod Sources
+pub mod Token
+pub mod Tries
+pub mod Variable
