@@ -17,5 +17,3 @@ pub use order::{Named, sort_entries};
 pub use parse::{EntryError, parse_entry};
 pub use print::{can_be_printed, print_entry};
 
-#[cfg(test)]
-mod tests;
