@@ -16,6 +16,3 @@ pub use name::{Counter, entry_name, read_entry_name};
 pub use order::{Named, sort_entries};
 pub use parse::{EntryError, parse_entry};
 pub use print::{can_be_printed, print_entry};
-
-#[cfg(test)]
-mod tests;

@@ -87,12 +87,7 @@ fn require_match(conf: Conf, asked: Option<&Key>) -> Result<Conf, Stop>
 }
 
 // The conf that the bytes are, where it is of the package asked for.
-fn read_for(
-    alloc: Global,
-    bytes: &[u8],
-    asked: Option<&Key>,
-    given: &Given,
-) -> Result<Conf, Stop>
+fn read_for(alloc: Global, bytes: &[u8], asked: Option<&Key>, given: &Given) -> Result<Conf, Stop>
     requires { length bytes.now ≤ 65_536 }
     ensures { IsRead result (rule.matched (option_copied asked.entry) (conf_of bytes.now given.now)) }
 {

@@ -158,17 +158,13 @@ fn collide(place: &[Text], other: &[Text]) -> bool
 fn is_place_taken(target: &Placed, earlier: &[Placed]) -> bool
     ensures { result ≡ list_any (λ (other : Placed). rule.collide target.now.place other.place) earlier.now }
 {
-    earlier
-        .iter()
-        .any(|other| collide(target.place.as_slice(), other.place.as_slice()))
+    earlier.iter().any(|other| collide(target.place.as_slice(), other.place.as_slice()))
 }
 
 fn is_name_taken(values: &Values<'_>, target: &Placed, earlier: &[Placed]) -> bool
     ensures { result ≡ list_any (λ (other : Placed). rule.same_name values.now target.now.number other.number) earlier.now }
 {
-    earlier
-        .iter()
-        .any(|other| dest_name(values, other.number) == dest_name(values, target.number))
+    earlier.iter().any(|other| dest_name(values, other.number) == dest_name(values, target.number))
 }
 
 // The first bad value of a target, behind the targets before it.

@@ -8,5 +8,7 @@ returns-in-Some-3 c = rw (sym (any_number (same_name c.args.values.now c.args.ta
 
 pub returns : goal.returns
 returns c =
-    rw (sym (any_number (same_name c.args.values.now c.args.target.now.number) c.args.earlier.now),
-    sym (any_place c.args.values.now c.args.target.now.number c.args.target.now.place c.args.earlier.now c.requires.placed c.requires.earlier_placed)) (search rules)
+    rw (
+      sym (any_number (same_name c.args.values.now c.args.target.now.number) c.args.earlier.now),
+      sym (any_place c.args.values.now c.args.target.now.number c.args.target.now.place c.args.earlier.now c.requires.placed c.requires.earlier_placed),
+    ) (search rules)
