@@ -1,7 +1,7 @@
 -- How texts begin and end.
 use Rattle.std.proofs.Common.{◌≡◌, ℕ, Bool, true, false, List, [], ◌∷◌, ◌++◌, reverse, refl, sym, ap, ◌∙◌}
 use Rattle.std.proofs.lemmas.List.{reverse-append, reverse-reverse}
-use Rattle.kb_bls.specs.Fields.{begins_with, ends_with}
+use Rattle.kb_bls.specs.Fields.{begins_so, ends_with}
 
 pub by_test : (b : Bool) → (b ≡ true → ⊥) → b ≡ false
 by_test true never = absurd (never refl)
@@ -13,11 +13,11 @@ not_both b h k = let q : true ≡ false = sym h ∙ k in cc
 reverse_cons : (x : ℕ) (rest : List ℕ) → reverse (x ∷ rest) ≡ reverse rest ++ (x ∷ [])
 reverse_cons x rest = reverse-append (x ∷ []) rest
 
-pub begins_at : (test : ℕ → Bool) (text rest : List ℕ) (x : ℕ) → begins_with test text ≡ false → text ≡ x ∷ rest → test x ≡ false
-begins_at test text rest x h e = sym (ap (begins_with test) e) ∙ h
+pub begins_at : (test : ℕ → Bool) (text rest : List ℕ) (x : ℕ) → begins_so test text ≡ false → text ≡ x ∷ rest → test x ≡ false
+begins_at test text rest x h e = sym (ap (begins_so test) e) ∙ h
 
 -- a text of which each first byte fails a test doesn't begin with one that passes it
-pub begins_unless : (test : ℕ → Bool) (text : List ℕ) → ((x : ℕ) (rest : List ℕ) → text ≡ x ∷ rest → test x ≡ false) → begins_with test text ≡ false
+pub begins_unless : (test : ℕ → Bool) (text : List ℕ) → ((x : ℕ) (rest : List ℕ) → text ≡ x ∷ rest → test x ≡ false) → begins_so test text ≡ false
 begins_unless test [] fails = refl
 begins_unless test (x ∷ rest) fails = fails x rest refl
 

@@ -18,8 +18,8 @@ use Rattle.std.proofs.lemmas.List.Folds.{list_all-append}
 use Rattle.kb_world.specs.Names.{is_one_of}
 use Rattle.kb_bls.specs.declared.name.Counter.{Counter}
 use Rattle.kb_bls.specs.declared.name.Counter.TheVariants.{Good, Left}
-use Rattle.kb_bls.specs.Names.{is_number, Writes, IsEnding, has_name_bytes, IsBase, IsEntryName, IsCountable, counter_text, name_of}
-use Rattle.kb_bls.specs.Reading.{Cut, cut_first, cut_last, number_in, left_with, counter_of_parts, counter_in, Reading, counted_at, counted, if_based, stem_reading, name_reading}
+use Rattle.kb_bls.specs.Names.{is_count, WritesNumber, IsEnding, has_name_bytes, IsEntryBase, IsEntryName, IsCountable, counter_text, name_of}
+use Rattle.kb_bls.specs.Reading.{Cut, cut_first, cut_last, count_in, left_with, counter_of_parts, counter_in, Reading, counted_at, counted, if_based, stem_reading, name_reading}
 use Rattle.kb_bls.proofs.EndLaws.{by_test}
 use Rattle.kb_bls.proofs.NameLaws.{digits_model, short, lacks, isnt, first_none, first_there, last_there, last_is, first_is, IsReading}
 
@@ -35,7 +35,7 @@ digits_lack (c ∷ text) h =
     let more = digits_lack text (second_so (is_ascii_digit c) _ h) in
     (both_true one.0 more.0, both_true one.1 more.1)
 
-written : (digits : List ℕ) (n : ℕ) → Writes digits n → number_in digits ≡ Some n
+written : (digits : List ℕ) (n : ℕ) → WritesNumber digits n → count_in digits ≡ Some n
 written digits n w = ap (λ b. cond b (Some (digits_value 10 digits)) None) w.few ∙ ap Some (sym w.value)
 
 -- what stands behind the plus sign of an ending
@@ -81,10 +81,10 @@ record IsCounter (ending : List ℕ) (counter : Counter) : Type 0 where
   is : counter ≡ Left left done
   counts : IsEnding ending (Left left done)
 
-number_writes : (text : List ℕ) (n : ℕ) → number_in text ≡ Some n → Writes text n
-number_writes text n e = by_few (is_number text) refl e
+number_writes : (text : List ℕ) (n : ℕ) → count_in text ≡ Some n → WritesNumber text n
+number_writes text n e = by_few (is_count text) refl e
   where
-    by_few : (b : Bool) → is_number text ≡ b → cond b (Some (digits_value 10 text)) None ≡ Some n → Writes text n
+    by_few : (b : Bool) → is_count text ≡ b → cond b (Some (digits_value 10 text)) None ≡ Some n → WritesNumber text n
     by_few true few k = record { few = few; value = cc }
     by_few false few k = cc
 
@@ -96,11 +96,11 @@ both_there None _ counter e = cc
 
 counter_stands : (tail : List ℕ) (cut : Option Cut) (counter : Counter) → cut_first (byte "-") tail ≡ cut → counter_of_parts tail cut ≡ Some counter → IsCounter (byte "+" ∷ tail) counter
 counter_stands tail None counter at e =
-    let (l, d, left, done, is) = both_there (number_in tail) (Some 0) counter e in
+    let (l, d, left, done, is) = both_there (count_in tail) (Some 0) counter e in
     let zero_done : d ≡ 0 = cc in
     record { left = l; done = d; is = is; counts = inl (record { digits = tail; writes = number_writes tail l left; none_done = zero_done; is = refl }) }
 counter_stands tail (Some parts) counter at e =
-    let (l, d, left, done, is) = both_there (number_in parts.0) (number_in parts.1) counter e in
+    let (l, d, left, done, is) = both_there (count_in parts.0) (count_in parts.1) counter e in
     record {
       left = l;
       done = d;
@@ -168,7 +168,7 @@ not_counted stem none = by_read (counted stem) refl
         let s = counted_stands stem (cut_last (byte "+") stem) read refl e in
         absurd (none read.0 s.ending s.counts.left s.counts.done s.is s.counts.counts)
 
-chosen : (base ending : List ℕ) (counter : Counter) → IsEnding ending counter → IsBase base counter → unwrap_or (counted (base ++ ending)) (base ++ ending, Good) ≡ (base, counter)
+chosen : (base ending : List ℕ) (counter : Counter) → IsEnding ending counter → IsEntryBase base counter → unwrap_or (counted (base ++ ending)) (base ++ ending, Good) ≡ (base, counter)
 chosen base ending Good e b =
     let same : base ++ ending ≡ base = ap (λ d. base ++ d) e ∙ append-nil base in
     ap (λ stem. unwrap_or (counted stem) (stem, Good)) same ∙ ap (λ o. unwrap_or o (base, Good)) (not_counted base (b.whole refl))
@@ -277,7 +277,7 @@ stripped name stem (n, (width, whole, cut), front, long) = whole ∙ ap (λ s. s
 
 -- ---- what is written is in the relation
 
-decimal_writes : (n : ℕ) → n < 1000000000 → Writes (decimal n) n
+decimal_writes : (n : ℕ) → n < 1000000000 → WritesNumber (decimal n) n
 decimal_writes n h =
     let small : n < 2 ^ 64 = omega arith in
     let some : 0 < length (decimal n) = decimal_nonempty n small in
@@ -298,5 +298,5 @@ written_ending (Left left done) (small, few) = by_done (done == 0) refl
     by_done true e = inl (record { digits = decimal left; writes = decimal_writes left small; none_done = grind (arith, nat_tests); is = ap (λ d. byte "+" ∷ d) (append-nil (decimal left)) })
     by_done false e = inr (record { digits = decimal left; more = decimal done; writes = decimal_writes left small; writes_more = decimal_writes done few; is = refl })
 
-pub name_back : (base : List ℕ) (counter : Counter) (name : List ℕ) → IsBase base counter → IsCountable counter → name ≡ name_of base counter → IsEntryName name base counter
+pub name_back : (base : List ℕ) (counter : Counter) (name : List ℕ) → IsEntryBase base counter → IsCountable counter → name ≡ name_of base counter → IsEntryName name base counter
 name_back base counter name b h e = record { ending = counter_text counter; is = e; counts = written_ending counter h; based = b }

@@ -5,7 +5,7 @@ use Rattle.std.proofs.lemmas.List.{append-nil, map-append}
 use Rattle.std.proofs.lemmas.List.Elements.{filter-append}
 use Rattle.kb_bls.specs.declared.entry.Entry.{Entry}
 use Rattle.kb_bls.specs.Fields.{Field}
-use Rattle.kb_bls.specs.Text.{values_of, last_of, Has}
+use Rattle.kb_bls.specs.Text.{values_of, last_value_of, Has}
 use Rattle.kb_bls.proofs.EndLaws.{by_test}
 
 -- what is said, and then this
@@ -27,20 +27,20 @@ values-more name said key value =
     let named : Field → Bool = λ g. bytes_eq g.key name in
     ap (map (λ g. g.value)) (filter-append named said (f ∷ [])) ∙ map-append (λ g. g.value) (filter named said) (filter named (f ∷ [])) ∙ with_last (bytes_eq key name) (values_of name said) f
 
-last-more : (values : List (List ℕ)) (value : List ℕ) → last_of (values ++ value ∷ []) ≡ Some value
+last-more : (values : List (List ℕ)) (value : List ℕ) → last_value_of (values ++ value ∷ []) ≡ Some value
 last-more [] value = refl
 last-more (x ∷ []) value = refl
 last-more (x ∷ y ∷ rest) value = last-more (y ∷ rest) value
 
-last_if : (b : Bool) (values : List (List ℕ)) (value : List ℕ) → cond b (Some value) (last_of values) ≡ last_of (values_more b values value)
+last_if : (b : Bool) (values : List (List ℕ)) (value : List ℕ) → cond b (Some value) (last_value_of values) ≡ last_value_of (values_more b values value)
 last_if true values value = sym (last-more values value)
 last_if false values value = refl
 
 -- a key of which the last value counts, and one of which all do
 pub one : (name : List ℕ) (said : List Field) (key value : List ℕ) (had : Option (List ℕ))
-    → had ≡ last_of (values_of name said) → cond (bytes_eq key name) (Some value) had ≡ last_of (values_of name (and_then said key value))
+    → had ≡ last_value_of (values_of name said) → cond (bytes_eq key name) (Some value) had ≡ last_value_of (values_of name (and_then said key value))
 one name said key value had e =
-    ap (λ o. cond (bytes_eq key name) (Some value) o) e ∙ last_if (bytes_eq key name) (values_of name said) value ∙ ap last_of (sym (values-more name said key value))
+    ap (λ o. cond (bytes_eq key name) (Some value) o) e ∙ last_if (bytes_eq key name) (values_of name said) value ∙ ap last_value_of (sym (values-more name said key value))
 
 pub all : (name : List ℕ) (said : List Field) (key value : List ℕ) (had : List (List ℕ))
     → had ≡ values_of name said → values_more (bytes_eq key name) had value ≡ values_of name (and_then said key value)
@@ -101,16 +101,16 @@ still name said key value h = sym (values-more name said key value ∙ ap (λ b.
 
 pub passed : (e : Entry) (key value : List ℕ) → IsUnknown key → (said : List Field) → Has e said → Has e (and_then said key value)
 passed e key value u said h = record {
-  title = h.title ∙ ap last_of (still (codes "title") said key value u.title);
-  version = h.version ∙ ap last_of (still (codes "version") said key value u.version);
-  machine_id = h.machine_id ∙ ap last_of (still (codes "machine-id") said key value u.machine_id);
-  sort_key = h.sort_key ∙ ap last_of (still (codes "sort-key") said key value u.sort_key);
+  title = h.title ∙ ap last_value_of (still (codes "title") said key value u.title);
+  version = h.version ∙ ap last_value_of (still (codes "version") said key value u.version);
+  machine_id = h.machine_id ∙ ap last_value_of (still (codes "machine-id") said key value u.machine_id);
+  sort_key = h.sort_key ∙ ap last_value_of (still (codes "sort-key") said key value u.sort_key);
   options = h.options ∙ still (codes "options") said key value u.options;
-  linux = h.linux ∙ ap last_of (still (codes "linux") said key value u.linux);
-  efi = h.efi ∙ ap last_of (still (codes "efi") said key value u.efi);
+  linux = h.linux ∙ ap last_value_of (still (codes "linux") said key value u.linux);
+  efi = h.efi ∙ ap last_value_of (still (codes "efi") said key value u.efi);
   initrd = h.initrd ∙ still (codes "initrd") said key value u.initrd;
-  devicetree = h.devicetree ∙ ap last_of (still (codes "devicetree") said key value u.devicetree);
-  architecture = h.architecture ∙ ap last_of (still (codes "architecture") said key value u.architecture);
+  devicetree = h.devicetree ∙ ap last_value_of (still (codes "devicetree") said key value u.devicetree);
+  architecture = h.architecture ∙ ap last_value_of (still (codes "architecture") said key value u.architecture);
 }
 
 -- ---- what is said tells the entry

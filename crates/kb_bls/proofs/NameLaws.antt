@@ -15,8 +15,8 @@ use Rattle.std.proofs.lemmas.Str.Parse.{IsNumeralModel, numerals_by_value, parse
 use Rattle.std.proofs.lemmas.Str.Pattern.{NoCharPasses-char, drop_at_char, IsSplitOnceResult, split_parts}
 use Rattle.kb_bls.specs.declared.name.Counter.{Counter}
 use Rattle.kb_bls.specs.declared.name.Counter.TheVariants.{Left}
-use Rattle.kb_bls.specs.Names.{is_number, IsTriedOnce}
-use Rattle.kb_bls.specs.Reading.{Cut, with_front, cut_first, cut_here, cut_last, number_in, left_with, counter_of_parts, counter_in, Reading, counted_at, counted}
+use Rattle.kb_bls.specs.Names.{is_count, IsTriedOnce}
+use Rattle.kb_bls.specs.Reading.{Cut, with_front, cut_first, cut_here, cut_last, count_in, left_with, counter_of_parts, counter_in, Reading, counted_at, counted}
 use Rattle.kb_bls.proofs.EndLaws.{by_test, not_both}
 
 -- ---- tries
@@ -35,14 +35,14 @@ pub record IsShort (text : List ℕ) : Type 0 where
   pub few : length text ≤ 9
   pub digits : list_all is_ascii_digit text ≡ true
 
-pub short : (text : List ℕ) → is_number text ≡ true → IsShort text
+pub short : (text : List ℕ) → is_count text ≡ true → IsShort text
 short text h =
     let sizes = first_so (nat_lt 0 (length text) && nat_le (length text) 9) (list_all is_ascii_digit text) h in
     let some : nat_lt 0 (length text) ≡ true = first_so (nat_lt 0 (length text)) (nat_le (length text) 9) sizes in
     let few : nat_le (length text) 9 ≡ true = second_so (nat_lt 0 (length text)) (nat_le (length text) 9) sizes in
     record { some = grind (arith, nat_tests); few = grind (arith, nat_tests); digits = second_so (nat_lt 0 (length text) && nat_le (length text) 9) (list_all is_ascii_digit text) h }
 
-pub number_read : {E : Type 0} (text : List ℕ) (r : Result ℕ E) → is_number text ≡ true → ParsesUnsigned 32 10 text r → result_ok r ≡ number_in text
+pub number_read : {E : Type 0} (text : List ℕ) (r : Result ℕ E) → is_count text ≡ true → ParsesUnsigned 32 10 text r → result_ok r ≡ count_in text
 number_read {E = E} text r h parses =
     let s = short text h in
     let small : digits_value 10 text < 10 ^ 9 = digits_value_short digits_model text 9 s.digits s.few in
@@ -157,10 +157,10 @@ last_found c text (Some x) ascii (i, j, found, front, back, more, short, long) =
 
 -- ---- the code's answers
 
-pub counter_cut : (text left done : List ℕ) → cut_first (byte "-") text ≡ Some (left, done) → left_with (number_in left) (number_in done) ≡ counter_in text
+pub counter_cut : (text left done : List ℕ) → cut_first (byte "-") text ≡ Some (left, done) → left_with (count_in left) (count_in done) ≡ counter_in text
 counter_cut text left done e = ap (counter_of_parts text) (sym e)
 
-pub counter_whole : (text : List ℕ) → cut_first (byte "-") text ≡ None → left_with (number_in text) (Some 0) ≡ counter_in text
+pub counter_whole : (text : List ℕ) → cut_first (byte "-") text ≡ None → left_with (count_in text) (Some 0) ≡ counter_in text
 counter_whole text e = ap (counter_of_parts text) (sym e)
 
 abbrev pub IsReading : Option Reading → Option (Bor (List ℕ) × Counter) → Type 0

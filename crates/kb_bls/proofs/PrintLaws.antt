@@ -13,9 +13,9 @@ use Rattle.std.proofs.lemmas.List.Folds.{list_all-append, list_all-map}
 use Rattle.std.proofs.lemmas.List.Splits.{slice_split_at}
 use Rattle.std.proofs.lemmas.Grind.{flat_map-append}
 use Rattle.kb_bls.specs.declared.entry.Entry.{Entry}
-use Rattle.kb_bls.specs.Fields.{Field, CARRIAGE_RETURN, is_blank, are_blanks, has_no_blank, begins_with, ends_with, IsWithoutReturn, IsTrimmed, Says, SaysNothing, Say}
-use Rattle.kb_bls.specs.Text.{LINE_FEED, lines_of, values_of, last_of, Has, IsEntryOf}
-use Rattle.kb_bls.specs.Print.{values_by_key, fields_with, fields_of, field_line, entry_text, is_value, can_be_printed}
+use Rattle.kb_bls.specs.Fields.{Field, CARRIAGE_RETURN, is_entry_blank, are_blanks, has_no_blank, begins_so, ends_with, IsWithoutReturn, IsTrimmed, Says, SaysNothing, Say}
+use Rattle.kb_bls.specs.Text.{LINE_FEED, lines_of, values_of, last_value_of, Has, IsEntryOf}
+use Rattle.kb_bls.specs.Print.{values_by_key, fields_with, printed_fields, field_line, entry_text, is_value, can_be_printed}
 use Rattle.kb_bls.proofs.EndLaws.{by_test, not_both, ends_unless}
 use Rattle.kb_bls.proofs.SayLaws.{trimmed_same}
 
@@ -63,7 +63,7 @@ ended_line f rest = simp append_assoc
 
 -- what a key is made of
 abbrev is_plain : List ℕ → Bool
-is_plain key = nat_lt 0 (length key) && list_all (λ c. not (nat_eq c LINE_FEED) && not (is_blank c)) key
+is_plain key = nat_lt 0 (length key) && list_all (λ c. not (nat_eq c LINE_FEED) && not (is_entry_blank c)) key
 
 abbrev can_stand : Field → Bool
 can_stand f = is_plain f.key && is_value f.value
@@ -82,24 +82,24 @@ no_feed q (x ∷ text) h =
 pub record IsGoodValue (v : List ℕ) : Type 0 where
   pub some : nat_lt 0 (length v) ≡ true
   pub bytes : list_all (λ c. not (nat_eq c LINE_FEED) && not (nat_eq CARRIAGE_RETURN c)) v ≡ true
-  pub begins : begins_with is_blank v ≡ false
-  pub ends : ends_with is_blank v ≡ false
+  pub begins : begins_so is_entry_blank v ≡ false
+  pub ends : ends_with is_entry_blank v ≡ false
 
 good_value : (v : List ℕ) → is_value v ≡ true → IsGoodValue v
 good_value v h =
-    let but_end = first_so _ (not (ends_with is_blank v)) h in
-    let but_begin = first_so _ (not (begins_with is_blank v)) but_end in
+    let but_end = first_so _ (not (ends_with is_entry_blank v)) h in
+    let but_begin = first_so _ (not (begins_so is_entry_blank v)) but_end in
     record {
       some = first_so (nat_lt 0 (length v)) _ but_begin;
       bytes = second_so (nat_lt 0 (length v)) _ but_begin;
-      begins = from_not (begins_with is_blank v) (second_so _ (not (begins_with is_blank v)) but_end);
-      ends = from_not (ends_with is_blank v) (second_so _ (not (ends_with is_blank v)) h);
+      begins = from_not (begins_so is_entry_blank v) (second_so _ (not (begins_so is_entry_blank v)) but_end);
+      ends = from_not (ends_with is_entry_blank v) (second_so _ (not (ends_with is_entry_blank v)) h);
     }
 
 no_feed_in : (f : Field) → is_plain f.key ≡ true → IsGoodValue f.value → All (λ c. nat_eq c LINE_FEED ≡ false) (line_body f)
 no_feed_in f plain good =
     let P : ℕ → Type 0 = λ c. nat_eq c LINE_FEED ≡ false in
-    All-append P f.key (replicate (10 - length f.key) SPACE ++ (SPACE ∷ f.value)) (no_feed (λ c. not (is_blank c)) f.key (second_so (nat_lt 0 (length f.key)) _ plain))
+    All-append P f.key (replicate (10 - length f.key) SPACE ++ (SPACE ∷ f.value)) (no_feed (λ c. not (is_entry_blank c)) f.key (second_so (nat_lt 0 (length f.key)) _ plain))
     (All-append P (replicate (10 - length f.key) SPACE) (SPACE ∷ f.value) (All-replicate P (10 - length f.key) SPACE refl)
     (All-cons P SPACE f.value refl (no_feed (λ c. not (nat_eq CARRIAGE_RETURN c)) f.value good.bytes)))
 
@@ -112,25 +112,25 @@ spaces_blank : (n : ℕ) → are_blanks (replicate n SPACE) ≡ true
 spaces_blank zero = refl
 spaces_blank (suc n) = spaces_blank n
 
-keys_blank : (key : List ℕ) → list_all (λ c. not (nat_eq c LINE_FEED) && not (is_blank c)) key ≡ true → has_no_blank key ≡ true
+keys_blank : (key : List ℕ) → list_all (λ c. not (nat_eq c LINE_FEED) && not (is_entry_blank c)) key ≡ true → has_no_blank key ≡ true
 keys_blank [] h = refl
 keys_blank (x ∷ key) h =
-    both_true (second_so (not (nat_eq x LINE_FEED)) _ (first_so (not (nat_eq x LINE_FEED) && not (is_blank x)) _ h)) (keys_blank key (second_so (not (nat_eq x LINE_FEED) && not (is_blank x)) _ h))
+    both_true (second_so (not (nat_eq x LINE_FEED)) _ (first_so (not (nat_eq x LINE_FEED) && not (is_entry_blank x)) _ h)) (keys_blank key (second_so (not (nat_eq x LINE_FEED) && not (is_entry_blank x)) _ h))
 
-begins_plain : (key rest : List ℕ) → is_plain key ≡ true → begins_with is_blank (key ++ rest) ≡ false
+begins_plain : (key rest : List ℕ) → is_plain key ≡ true → begins_so is_entry_blank (key ++ rest) ≡ false
 begins_plain [] rest h = let e : false ≡ true = h in cc
 begins_plain (x ∷ key) rest h =
-    from_not (is_blank x) (second_so (not (nat_eq x LINE_FEED)) _ (first_so (not (nat_eq x LINE_FEED) && not (is_blank x)) _ (second_so (nat_lt 0 (length (x ∷ key))) _ h)))
+    from_not (is_entry_blank x) (second_so (not (nat_eq x LINE_FEED)) _ (first_so (not (nat_eq x LINE_FEED) && not (is_entry_blank x)) _ (second_so (nat_lt 0 (length (x ∷ key))) _ h)))
 
 -- how a list that isn't empty begins
-begins_front : (test : ℕ → Bool) (a b : List ℕ) → a ≢ [] → begins_with test (a ++ b) ≡ begins_with test a
+begins_front : (test : ℕ → Bool) (a b : List ℕ) → a ≢ [] → begins_so test (a ++ b) ≡ begins_so test a
 begins_front test [] b some = absurd (some refl)
 begins_front test (x ∷ a) b some = refl
 
 -- a text ends as its last part does
 pub ends_back : (test : ℕ → Bool) (front back : List ℕ) → back ≢ [] → ends_with test (front ++ back) ≡ ends_with test back
 ends_back test front back some =
-    ap (begins_with test) (reverse-append front back)
+    ap (begins_so test) (reverse-append front back)
     ∙ begins_front test (reverse back) (reverse front) (λ e. some (sym (reverse-reverse back) ∙ ap reverse e))
 
 not_empty : (v : List ℕ) → nat_lt 0 (length v) ≡ true → v ≢ []
@@ -162,7 +162,7 @@ line_trimmed f plain good =
       before_blank = refl;
       after_blank = refl;
       begins = begins_plain f.key (replicate (10 - length f.key) SPACE ++ (SPACE ∷ f.value)) plain;
-      ends = ends_so is_blank good.ends;
+      ends = ends_so is_entry_blank good.ends;
     }
 
 says_line : (f : Field) → can_stand f ≡ true → Says (line_body f) f
@@ -235,18 +235,18 @@ values_by_table name (k ∷ table) =
     values-append name (fields_with k.0 k.1) (flat_map (λ q. fields_with q.0 q.1) table)
     ∙ (λ i. values_with name k.0 k.1 i ++ values_by_table name table i)
 
-last_option : (o : Option (List ℕ)) → last_of (option_to_list o) ≡ o
+last_option : (o : Option (List ℕ)) → last_value_of (option_to_list o) ≡ o
 last_option None = refl
 last_option (Some v) = refl
 
 -- the values of a key of the table
-all_of : (e : Entry) (name : List ℕ) (values : List (List ℕ)) → flat_map (λ k. cond (bytes_eq k.0 name) k.1 []) (values_by_key e) ≡ values ++ [] → values ≡ values_of name (fields_of e)
+all_of : (e : Entry) (name : List ℕ) (values : List (List ℕ)) → flat_map (λ k. cond (bytes_eq k.0 name) k.1 []) (values_by_key e) ≡ values ++ [] → values ≡ values_of name (printed_fields e)
 all_of e name values is = sym (values_by_table name (values_by_key e) ∙ is ∙ append-nil values)
 
-one_of : (e : Entry) (name : List ℕ) (value : Option (List ℕ)) → flat_map (λ k. cond (bytes_eq k.0 name) k.1 []) (values_by_key e) ≡ option_to_list value ++ [] → value ≡ last_of (values_of name (fields_of e))
-one_of e name value is = sym (last_option value) ∙ ap last_of (all_of e name (option_to_list value) is)
+one_of : (e : Entry) (name : List ℕ) (value : Option (List ℕ)) → flat_map (λ k. cond (bytes_eq k.0 name) k.1 []) (values_by_key e) ≡ option_to_list value ++ [] → value ≡ last_value_of (values_of name (printed_fields e))
+one_of e name value is = sym (last_option value) ∙ ap last_value_of (all_of e name (option_to_list value) is)
 
-has_fields : (e : Entry) → Has e (fields_of e)
+has_fields : (e : Entry) → Has e (printed_fields e)
 has_fields e = record {
   title = one_of e (codes "title") e.title refl;
   version = one_of e (codes "version") e.version refl;
@@ -289,11 +289,11 @@ values_table (k ∷ table) h =
 
 pub printed_is_entry : (e : Entry) → can_be_printed e ≡ true → IsUtf8 (entry_text e) → IsEntryOf (entry_text e) e
 printed_is_entry e can utf8 =
-    let stand = stand_all (fields_of e) (plain_table (values_by_key e) refl) (values_table (values_by_key e) can) in
+    let stand = stand_all (printed_fields e) (plain_table (values_by_key e) refl) (values_table (values_by_key e) can) in
     record {
       utf8 = utf8;
-      said = fields_of e;
-      lines = subst (λ l. Say l (fields_of e)) (sym (lines_printed (fields_of e) stand)) (say_printed (fields_of e) stand);
+      said = printed_fields e;
+      lines = subst (λ l. Say l (printed_fields e)) (sym (lines_printed (printed_fields e) stand)) (say_printed (printed_fields e) stand);
       has = has_fields e;
     }
 
@@ -312,7 +312,7 @@ printed_back e r text h is can utf8 =
 -- ---- the test of a value
 
 -- what is trimmed and has no carriage return is its own trimmed text
-own_trimmed : (v : List ℕ) → list_all (λ c. not (nat_eq c LINE_FEED) && not (nat_eq CARRIAGE_RETURN c)) v ≡ true → begins_with is_blank v ≡ false → ends_with is_blank v ≡ false → IsTrimmed v v
+own_trimmed : (v : List ℕ) → list_all (λ c. not (nat_eq c LINE_FEED) && not (nat_eq CARRIAGE_RETURN c)) v ≡ true → begins_so is_entry_blank v ≡ false → ends_with is_entry_blank v ≡ false → IsTrimmed v v
 own_trimmed v bytes begins ends = record {
   between = v;
   before = [];
@@ -329,14 +329,14 @@ abbrev pub no_line_end : List ℕ → Bool
 no_line_end v = list_all (λ c. not (nat_eq c LINE_FEED) && not (nat_eq CARRIAGE_RETURN c)) v
 
 pub value_test : (v text : List ℕ) → nat_lt 0 (length v) ≡ true → list_all (λ c. not (nat_eq c LINE_FEED) && not (nat_eq CARRIAGE_RETURN c)) v ≡ true → IsTrimmed v text → bytes_eq text v ≡ is_value v
-value_test v text some bytes trimmed = by_ends (begins_with is_blank v) (ends_with is_blank v) refl refl ∙ (λ i. ((sym some i && sym bytes i) && not (begins_with is_blank v)) && not (ends_with is_blank v))
+value_test v text some bytes trimmed = by_ends (begins_so is_entry_blank v) (ends_with is_entry_blank v) refl refl ∙ (λ i. ((sym some i && sym bytes i) && not (begins_so is_entry_blank v)) && not (ends_with is_entry_blank v))
   where
     differs : (b : Bool) → b ≡ true → (text ≡ v → b ≡ false) → bytes_eq text v ≡ false
     differs b h fails = by_test (bytes_eq text v) (λ same. not_both b h (fails ((bytes_decides text v).0 same)))
 
-    by_ends : (a b : Bool) → begins_with is_blank v ≡ a → ends_with is_blank v ≡ b → bytes_eq text v ≡ ((true && true) && not (begins_with is_blank v)) && not (ends_with is_blank v)
-    by_ends true b e k = differs (begins_with is_blank v) e (λ same. subst (λ t. begins_with is_blank t ≡ false) same trimmed.begins) ∙ (λ i. not (sym e i) && not (ends_with is_blank v))
-    by_ends false true e k = differs (ends_with is_blank v) k (λ same. subst (λ t. ends_with is_blank t ≡ false) same trimmed.ends) ∙ (λ i. not (sym e i) && not (sym k i))
+    by_ends : (a b : Bool) → begins_so is_entry_blank v ≡ a → ends_with is_entry_blank v ≡ b → bytes_eq text v ≡ ((true && true) && not (begins_so is_entry_blank v)) && not (ends_with is_entry_blank v)
+    by_ends true b e k = differs (begins_so is_entry_blank v) e (λ same. subst (λ t. begins_so is_entry_blank t ≡ false) same trimmed.begins) ∙ (λ i. not (sym e i) && not (ends_with is_entry_blank v))
+    by_ends false true e k = differs (ends_with is_entry_blank v) k (λ same. subst (λ t. ends_with is_entry_blank t ≡ false) same trimmed.ends) ∙ (λ i. not (sym e i) && not (sym k i))
     by_ends false false e k = (bytes_decides text v).1 (trimmed_same v text v trimmed (own_trimmed v bytes e k)) ∙ (λ i. not (sym e i) && not (sym k i))
 
 pub some_bytes : (n : ℕ) (b : Bool) → b ≡ (n == 0) → b ≡ false → nat_lt 0 n ≡ true

@@ -17,21 +17,21 @@ abbrev pub CARRIAGE_RETURN : ℕ
 CARRIAGE_RETURN = 13
 
 -- a space or a tab
-abbrev pub is_blank : ℕ → Bool
-is_blank c = nat_eq (byte " ") c || nat_eq TAB c
+abbrev pub is_entry_blank : ℕ → Bool
+is_entry_blank c = nat_eq (byte " ") c || nat_eq TAB c
 
 abbrev pub are_blanks : List ℕ → Bool
-are_blanks text = list_all is_blank text
+are_blanks text = list_all is_entry_blank text
 
 abbrev pub has_no_blank : List ℕ → Bool
-has_no_blank text = list_all (λ c. not (is_blank c)) text
+has_no_blank text = list_all (λ c. not (is_entry_blank c)) text
 
-abbrev pub begins_with : (ℕ → Bool) → List ℕ → Bool
-begins_with test [] = false
-begins_with test (c ∷ rest) = test c
+abbrev pub begins_so : (ℕ → Bool) → List ℕ → Bool
+begins_so test [] = false
+begins_so test (c ∷ rest) = test c
 
 abbrev pub ends_with : (ℕ → Bool) → List ℕ → Bool
-ends_with test text = begins_with test (reverse text)
+ends_with test text = begins_so test (reverse text)
 
 -- the line without one carriage return at its end
 abbrev pub IsWithoutReturn : List ℕ → List ℕ → Type 0
@@ -47,8 +47,8 @@ pub record IsTrimmed (line text : List ℕ) : Type 0 where
   pub is : between ≡ before ++ (text ++ after)
   pub before_blank : are_blanks before ≡ true
   pub after_blank : are_blanks after ≡ true
-  pub begins : begins_with is_blank text ≡ false
-  pub ends : ends_with is_blank text ≡ false
+  pub begins : begins_so is_entry_blank text ≡ false
+  pub ends : ends_with is_entry_blank text ≡ false
 
 -- The line, trimmed, is the key, one or more blanks and the value. An empty line says nothing. A comment's first word
 -- begins with `#`, so it is no key.
@@ -59,9 +59,9 @@ pub record Says (line : List ℕ) (field : Field) : Type 0 where
   pub trimmed : IsTrimmed line text
   pub is : text ≡ field.key ++ blank ∷ (more ++ field.value)
   pub key : has_no_blank field.key ≡ true
-  pub first_blank : is_blank blank ≡ true
+  pub first_blank : is_entry_blank blank ≡ true
   pub more_blank : are_blanks more ≡ true
-  pub value : begins_with is_blank field.value ≡ false
+  pub value : begins_so is_entry_blank field.value ≡ false
   pub some : field.value ≢ []
 
 abbrev pub SaysNothing : List ℕ → Type 0

@@ -10,7 +10,7 @@ use Rattle.kb_version.specs.Order.{version_order}
 use Rattle.kb_bls.specs.declared.entry.Entry.{Entry}
 use Rattle.kb_bls.specs.declared.order.Named.{Named}
 use Rattle.kb_bls.specs.declared.name.Counter.TheVariants.{Good}
-use Rattle.kb_bls.specs.Names.{is_bad}
+use Rattle.kb_bls.specs.Names.{is_out_of_tries}
 use Rattle.kb_bls.specs.Reading.{Reading, name_reading}
 
 abbrev pub bytes_order : List ℕ → List ℕ → Ordering
@@ -35,7 +35,7 @@ abbrev pub base_of : Named → List ℕ
 base_of named = (read_as named.name).0
 
 abbrev pub has_no_try : Named → Bool
-has_no_try named = is_bad (read_as named.name).1
+has_no_try named = is_out_of_tries (read_as named.name).1
 
 -- what tells entries with a sort key apart
 pub record SortFields : Type 0 where

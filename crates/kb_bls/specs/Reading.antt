@@ -4,7 +4,7 @@ use Rattle.std.specs.Str.{byte}
 use Rattle.std.specs.Str.Parse.{digits_value}
 use Rattle.kb_bls.specs.declared.name.Counter.{Counter}
 use Rattle.kb_bls.specs.declared.name.Counter.TheVariants.{Good, Left}
-use Rattle.kb_bls.specs.Names.{is_number, has_name_bytes}
+use Rattle.kb_bls.specs.Names.{is_count, has_name_bytes}
 
 -- two parts of a text, in its order
 abbrev pub Cut : Type 0
@@ -29,8 +29,8 @@ cut_last c [] = None
 cut_last c (x ∷ rest) = cut_here c x rest (cut_last c rest)
 
 -- the number that one to nine digits write
-abbrev pub number_in : List ℕ → Option ℕ
-number_in text = if is_number text then Some (digits_value 10 text) else None
+abbrev pub count_in : List ℕ → Option ℕ
+count_in text = if is_count text then Some (digits_value 10 text) else None
 
 abbrev pub left_with : Option ℕ → Option ℕ → Option Counter
 left_with (Some left) (Some done) = Some (Left left done)
@@ -38,8 +38,8 @@ left_with _ _ = None
 
 -- LEFT or LEFT-DONE
 abbrev pub counter_of_parts : List ℕ → Option Cut → Option Counter
-counter_of_parts text None = left_with (number_in text) (Some 0)
-counter_of_parts text (Some parts) = left_with (number_in parts.0) (number_in parts.1)
+counter_of_parts text None = left_with (count_in text) (Some 0)
+counter_of_parts text (Some parts) = left_with (count_in parts.0) (count_in parts.1)
 
 abbrev pub counter_in : List ℕ → Option Counter
 counter_in text = counter_of_parts text (cut_first (byte "-") text)

@@ -17,23 +17,23 @@ lines_of text = slice_split (λ c. nat_eq c LINE_FEED) text
 abbrev pub values_of : List ℕ → List Field → List (List ℕ)
 values_of key said = map (λ f. f.value) (filter (λ f. bytes_eq f.key key) said)
 
-abbrev pub last_of : List (List ℕ) → Option (List ℕ)
-last_of [] = None
-last_of (value ∷ []) = Some value
-last_of (value ∷ next ∷ rest) = last_of (next ∷ rest)
+abbrev pub last_value_of : List (List ℕ) → Option (List ℕ)
+last_value_of [] = None
+last_value_of (value ∷ []) = Some value
+last_value_of (value ∷ next ∷ rest) = last_value_of (next ∷ rest)
 
 -- `options` and `initrd` have all their values, the other keys their last
 pub record Has (entry : Entry) (said : List Field) : Type 0 where
-  pub title : entry.title ≡ last_of (values_of (codes "title") said)
-  pub version : entry.version ≡ last_of (values_of (codes "version") said)
-  pub machine_id : entry.machine_id ≡ last_of (values_of (codes "machine-id") said)
-  pub sort_key : entry.sort_key ≡ last_of (values_of (codes "sort-key") said)
+  pub title : entry.title ≡ last_value_of (values_of (codes "title") said)
+  pub version : entry.version ≡ last_value_of (values_of (codes "version") said)
+  pub machine_id : entry.machine_id ≡ last_value_of (values_of (codes "machine-id") said)
+  pub sort_key : entry.sort_key ≡ last_value_of (values_of (codes "sort-key") said)
   pub options : entry.options ≡ values_of (codes "options") said
-  pub linux : entry.linux ≡ last_of (values_of (codes "linux") said)
-  pub efi : entry.efi ≡ last_of (values_of (codes "efi") said)
+  pub linux : entry.linux ≡ last_value_of (values_of (codes "linux") said)
+  pub efi : entry.efi ≡ last_value_of (values_of (codes "efi") said)
   pub initrd : entry.initrd ≡ values_of (codes "initrd") said
-  pub devicetree : entry.devicetree ≡ last_of (values_of (codes "devicetree") said)
-  pub architecture : entry.architecture ≡ last_of (values_of (codes "architecture") said)
+  pub devicetree : entry.devicetree ≡ last_value_of (values_of (codes "devicetree") said)
+  pub architecture : entry.architecture ≡ last_value_of (values_of (codes "architecture") said)
 
 pub record IsEntryOf (text : List ℕ) (entry : Entry) : Type 0 where
   pub utf8 : IsUtf8 text

@@ -3,7 +3,7 @@ ghost use Rattle.std.specs.Prelude.{◌≡◌, IfOk, IfSome, IsSome, MatchOption
 ghost use Rattle.std.specs.List.{list_all};
 ghost use Rattle.std.specs.Char.{is_ascii_digit};
 ghost use Rattle.kb_world.specs.Names.{is_one_of};
-ghost use Rattle.kb_bls.specs.Names.{IsEntryName, IsBase, IsCountable, is_number, has_name_bytes, name_of};
+ghost use Rattle.kb_bls.specs.Names.{IsEntryName, IsEntryBase, IsCountable, is_count, has_name_bytes, name_of};
 ghost use Rattle.kb_bls.specs.Reading as spec;
 
 use kb_world::Text;
@@ -45,7 +45,7 @@ impl Counter {
 
 /// The name of an entry's file: the base, `+LEFT` or `+LEFT-DONE` where tries are counted, and `.conf`.
 pub fn entry_name(alloc: Global, base: &str, counter: &Counter) -> Result<Text, AllocError>
-    requires base { IsBase base.now counter.now }
+    requires base { IsEntryBase base.now counter.now }
     requires countable { IsCountable counter.now }
     ensures name { IfOk result (λ name. name ≡ name_of base.now counter.now) }
     ensures read_back { IfOk result (λ name. IsEntryName name base.now counter.now) }
@@ -65,7 +65,7 @@ fn has_only_digits(bytes: &[u8]) -> bool
 }
 
 fn is_number(text: &str) -> bool
-    ensures { result ≡ is_number text.now }
+    ensures { result ≡ is_count text.now }
 {
     let bytes = text.as_bytes();
     !bytes.is_empty() && bytes.len() <= MOST_DIGITS && has_only_digits(bytes)
@@ -73,7 +73,7 @@ fn is_number(text: &str) -> bool
 
 // The number of one to nine digits.
 fn number_of(text: &str) -> Option<u32>
-    ensures { result ≡ spec.number_in text.now }
+    ensures { result ≡ spec.count_in text.now }
 {
     if is_number(text) {
         text.parse().ok()

@@ -2,7 +2,7 @@
 ghost use Rattle.std.specs.Prelude.{◌≡◌, IfOk, option_map};
 ghost use Rattle.std.specs.Cmp.{IsTotalOrder};
 ghost use Rattle.std.specs.List.Sorted.{IsPermutation, IsSorted, IsStable};
-ghost use Rattle.kb_bls.specs.Names.{is_bad};
+ghost use Rattle.kb_bls.specs.Names.{is_out_of_tries};
 ghost use Rattle.kb_bls.specs.Order as spec;
 
 use crate::entry::Entry;
@@ -22,7 +22,7 @@ pub struct Named {
 // The base of a file's name, and whether no try is left to it. A name that isn't an entry's is its own base.
 fn base_of(name: &str) -> (&str, bool)
     ensures base { result.0.now ≡ (spec.read_as name.now).0 }
-    ensures bad { result.1 ≡ is_bad (spec.read_as name.now).1 }
+    ensures bad { result.1 ≡ is_out_of_tries (spec.read_as name.now).1 }
 {
     match read_entry_name(name) {
         Some((base, Counter::Left { left, .. })) => (base, left == 0),

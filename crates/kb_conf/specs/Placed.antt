@@ -5,8 +5,8 @@ use Rattle.kb_conf.specs.declared.targets.Placed.{Placed}
 use Rattle.kb_conf.specs.Values.{Values}
 use Rattle.kb_conf.specs.Targets.{target_place}
 
-abbrev pub number_in : Placed → ℕ
-number_in target = target.number
+abbrev pub target_number : Placed → ℕ
+target_number target = target.number
 
 -- the place is its target's
 abbrev pub IsPlaced : Values → Placed → Type 0
@@ -16,6 +16,6 @@ abbrev pub ArePlaced : Values → List Placed → Type 0
 ArePlaced values targets = All (IsPlaced values) targets
 
 -- there is a name, and it is this one
-abbrev pub is_named : List ℕ → Option (List ℕ) → Bool
-is_named name None = false
-is_named name (Some other) = bytes_eq name other
+abbrev pub is_that_name : List ℕ → Option (List ℕ) → Bool
+is_that_name name None = false
+is_that_name name (Some other) = bytes_eq name other

@@ -3,7 +3,7 @@ ghost use Rattle.std.specs.Prelude.{◌≡◌, IfOk, map, [], slice_get};
 ghost use Rattle.std.specs.List.{list_any};
 ghost use Rattle.std.specs.Str.{byte};
 ghost use Rattle.kb_conf.specs.PathValue.{path_parts};
-ghost use Rattle.kb_conf.specs.Placed.{number_in, IsPlaced, ArePlaced, is_named};
+ghost use Rattle.kb_conf.specs.Placed.{target_number, IsPlaced, ArePlaced, is_that_name};
 ghost use Rattle.kb_conf.specs.Targets as rule;
 ghost use Rattle.kb_world.specs.Path.{is_under};
 ghost use Rattle.kb_conf.specs.declared.targets.Placed.{Placed};
@@ -114,7 +114,7 @@ fn placed_targets(
     values: &Values<'_>,
     numbers: &[u8],
 ) -> Result<Vec<Placed>, AllocError>
-    ensures numbers { IfOk result (λ targets. map number_in targets.items ≡ numbers.now) }
+    ensures numbers { IfOk result (λ targets. map target_number targets.items ≡ numbers.now) }
     ensures places { IfOk result (λ targets. ArePlaced values.now targets.items) }
 {
     let mut targets = Vec::new(alloc);
@@ -130,7 +130,7 @@ fn placed_targets(
 
 // Whether this name stands at the index.
 fn has_name(place: &[Text], index: usize, name: &Text) -> bool
-    ensures { result ≡ is_named name.now (slice_get place.now index) }
+    ensures { result ≡ is_that_name name.now (slice_get place.now index) }
 {
     match place.get(index) {
         Some(other) => name == other,
@@ -176,7 +176,7 @@ fn bad_target(
 ) -> Result<Option<Text>, AllocError>
     requires placed { IsPlaced values.now target.now }
     requires earlier_placed { ArePlaced values.now earlier.now }
-    ensures { IfOk result (λ bad. bad ≡ rule.bad_target values.now (map number_in earlier.now) target.now.number) }
+    ensures { IfOk result (λ bad. bad ≡ rule.bad_target values.now (map target_number earlier.now) target.now.number) }
 {
     let number = target.number;
     let good = keeps(alloc, Rule::Word, built_name(values, number))?;

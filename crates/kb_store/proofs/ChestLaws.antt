@@ -25,7 +25,7 @@ use Rattle.kb_world.proofs.NameLaws.{known}
 use Rattle.kb_world.proofs.PathLaws.{under-self, by_test}
 use Rattle.kb_world.proofs.PublicLaws.{in_dkms}
 use Rattle.kb_world.proofs.DamageLaws.{under-split}
-use Rattle.kb_store.specs.Walking.{below, entries, met_at, is_dir_kind}
+use Rattle.kb_store.specs.Walking.{paths_below, entries, met_at, is_dir_kind}
 use Rattle.kb_store.specs.Contents.{chest_by, chest_files, chest_at, kept_paths}
 use Rattle.kb_store.specs.Chests.{is_file_kind, files_in, chest_met, chests_met}
 use Rattle.kb_store.specs.declared.store.Chest.{Chest}
@@ -174,7 +174,7 @@ kept_behind roots apart tree word spot front rest worded there split =
     let order = between front chest rest (subst (λ paths. rises paths ≡ true) split (entries_rise tree (is_private roots) roots.dkms)) in
     let own : is_kept tree chest chest ≡ false = ap (λ b. (is_under chest chest && not b) && is_file (node_at tree chest)) (under-self chest) ∙ and_false (is_under chest chest) (is_file (node_at tree chest)) in
     let found : filter (is_kept tree chest) (entries tree (is_private roots) roots.dkms) ≡ filter (is_kept tree chest) (keys tree) =
-    filter_within (is_kept tree chest) (λ path. not (is_private roots path)) (λ path h. chest_public roots apart word spot worded path (under_of path h)) (below tree roots.dkms)
+    filter_within (is_kept tree chest) (λ path. not (is_private roots path)) (λ path h. chest_public roots apart word spot worded path (under_of path h)) (paths_below tree roots.dkms)
     ∙ filter_within (is_kept tree chest) (λ path. is_below path roots.dkms) (λ path h. chest_below roots apart word spot worded path (under_of path h)) (keys tree) in
     files_below tree chest rest order.greater order.up
     ∙ ap (map (drop (length chest))) (

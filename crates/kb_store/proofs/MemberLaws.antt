@@ -11,7 +11,7 @@ use Rattle.kb_world.specs.Path.{Path, path_cmp}
 use Rattle.kb_world.specs.Roots.{is_below}
 use Rattle.kb_world.specs.Tree.{Tree}
 use Rattle.kb_world.specs.TreeLaws.{same_path, same_path-true, same_path-refl, paths_total, paths_exact}
-use Rattle.kb_store.specs.Walking.{below, entries}
+use Rattle.kb_store.specs.Walking.{paths_below, entries}
 use Rattle.kb_store.proofs.OrderLaws.{less, in_front, untrue, rises, is_in, in_more, holds_of, in_rest}
 use Rattle.kb_store.proofs.WalkLaws.{rises_keys}
 
@@ -122,11 +122,11 @@ same_members (x ∷ xs) (y ∷ ys) up vp same =
 
 -- what an entry is
 pub in_entries : (tree : Tree) (skips : Path → Bool) (d path : Path) → list_any (same_path path) (entries tree skips d) ≡ (not (skips path) && (is_below path d && list_any (same_path path) (keys tree)))
-in_entries tree skips d path = in_filter (λ q. not (skips q)) (below tree d) path ∙ ap (λ b. not (skips path) && b) (in_filter (λ q. is_below q d) (keys tree) path)
+in_entries tree skips d path = in_filter (λ q. not (skips q)) (paths_below tree d) path ∙ ap (λ b. not (skips path) && b) (in_filter (λ q. is_below q d) (keys tree) path)
 
 -- entries rise
 pub entries_rise : (tree : Tree) (skips : Path → Bool) (d : Path) → rises (entries tree skips d) ≡ true
-entries_rise tree skips d = rises_filter (λ q. not (skips q)) (below tree d) (rises_filter (λ q. is_below q d) (keys tree) (rises_keys tree))
+entries_rise tree skips d = rises_filter (λ q. not (skips q)) (paths_below tree d) (rises_filter (λ q. is_below q d) (keys tree) (rises_keys tree))
 
 -- ---- the order, further
 

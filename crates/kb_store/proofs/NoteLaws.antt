@@ -29,7 +29,7 @@ use Rattle.kb_world.proofs.SpotLaws.{link_spotted}
 use Rattle.kb_world.proofs.PublicLaws.{in_dkms}
 use Rattle.kb_store.specs.Contents.{build_of, build_by, build_at, installation_of, installation_by, installation_at, chest_by, chest_at, chest_files}
 use Rattle.kb_store.specs.Notes.{told_build, told_installation}
-use Rattle.kb_store.specs.Walking.{below, entries}
+use Rattle.kb_store.specs.Walking.{paths_below, entries}
 use Rattle.kb_store.proofs.OrderLaws.{not_true, untrue}
 use Rattle.kb_store.proofs.WalkLaws.{below_more}
 
@@ -110,13 +110,13 @@ module _ (roots : Roots) (apart : AreApart roots) {A : Type 0} (f : Path → A) 
 pub told_by_entries : {A : Type 0} (roots : Roots) → AreApart roots → (f : Path → Option A) → IsSilent roots f None → (tree : Tree) → filter_map f (keys tree) ≡ filter_map f (dkms_entries roots tree)
 told_by_entries roots apart f silent tree =
     filter_map-passed (λ path. is_below path roots.dkms) f (silent_beside roots apart f None silent) (keys tree)
-    ∙ filter_map-passed (λ path. not (is_private roots path)) f (silent_private roots apart f None silent) (below tree roots.dkms)
+    ∙ filter_map-passed (λ path. not (is_private roots path)) f (silent_private roots apart f None silent) (paths_below tree roots.dkms)
 
 -- the same of damaged paths
 pub harm_by_entries : (roots : Roots) → AreApart roots → (f : Path → List Path) → IsSilent roots f [] → (tree : Tree) → flat_map f (keys tree) ≡ flat_map f (dkms_entries roots tree)
 harm_by_entries roots apart f silent tree =
     flat_map-passed (λ path. is_below path roots.dkms) f (silent_beside roots apart f [] silent) (keys tree)
-    ∙ flat_map-passed (λ path. not (is_private roots path)) f (silent_private roots apart f [] silent) (below tree roots.dkms)
+    ∙ flat_map-passed (λ path. not (is_private roots path)) f (silent_private roots apart f [] silent) (paths_below tree roots.dkms)
 
 -- ---- each of what is told
 

@@ -29,7 +29,7 @@ use Rattle.kb_world.proofs.SpotLaws.{link_spotted}
 use Rattle.kb_world.proofs.PublicLaws.{in_dkms, shown, written_apart, IsAlwaysPublic}
 use Rattle.kb_store.specs.Contents.{build_at, installation_at, chest_at, chest_files, store_of}
 use Rattle.kb_store.specs.Notes.{told_build, told_installation}
-use Rattle.kb_store.specs.Read.{read_of, over, first_refusal, unless}
+use Rattle.kb_store.specs.Read.{read_of, over, first_refusal, store_unless}
 use Rattle.kb_store.specs.Walking.{walked, walk_on, meets, LIMITS}
 use Rattle.kb_store.specs.declared.walking.Limits.{Limits}
 use Rattle.kb_store.specs.declared.walking.Walk.{Walk}
@@ -338,4 +338,4 @@ module _ (roots : Roots) (apart : AreApart roots) (tree : Tree) where
       let hurts = hurt_public in
       let walks = walked_public LIMITS in
       let stores = store_public in
-      λ i. unless (first_refusal (hurts i) ((walks i).over)) (stores i)
+      λ i. store_unless (first_refusal (hurts i) ((walks i).over)) (stores i)

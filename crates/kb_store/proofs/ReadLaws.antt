@@ -5,11 +5,11 @@ use Rattle.kb_world.specs.Tree.{Tree}
 use Rattle.kb_world.specs.Damage.{hurt}
 use Rattle.kb_world.specs.declared.roots.Roots.{Roots}
 use Rattle.kb_world.specs.declared.refusal.Refusal.{Refusal}
-use Rattle.kb_store.specs.Read.{first_refusal, over, unless, read_of, store_refusal}
+use Rattle.kb_store.specs.Read.{first_refusal, over, store_unless, read_of, store_refusal}
 use Rattle.kb_store.specs.Contents.{store_of}
 use Rattle.kb_store.specs.declared.store.Store.{Store}
 
-unrefused : (due : Option Refusal) (store told : Store) → unless due store ≡ Ok told → due ≡ None
+unrefused : (due : Option Refusal) (store told : Store) → store_unless due store ≡ Ok told → due ≡ None
 unrefused None store told h = refl
 unrefused (Some why) store told h = let impossible : Err why ≡ Ok told = h in cc
 

@@ -26,7 +26,7 @@ use Rattle.kb_world.specs.declared.job.Key.{Key}
 use Rattle.kb_world.specs.declared.refusal.Refusal.{Refusal}
 use Rattle.kb_store.specs.Contents.{build_at, installation_at, chest_at, store_of}
 use Rattle.kb_store.specs.Notes.{told_build, told_installation, noted, noted_all, no_notes, notes_of, version_above, version_within, version_entries}
-use Rattle.kb_store.specs.Read.{first_refusal, over, store_refusal, unless, read_of, entries_over, paths_met, IsReading, IsWholeReading}
+use Rattle.kb_store.specs.Read.{first_refusal, over, store_refusal, store_unless, read_of, entries_over, paths_met, IsReading, IsWholeReading}
 use Rattle.kb_store.specs.Walking.{walked, LIMITS, met_at}
 use Rattle.kb_store.specs.declared.notes.Notes.{Notes}
 use Rattle.kb_store.specs.declared.read.Reading.{Reading}
@@ -114,12 +114,12 @@ refusal_is roots apart tree reading is = by reading.walk.over refl
 pub answer_refused : (roots : Roots) → AreApart roots → (tree : Tree) (reading : Reading) (why : Refusal) → IsReading roots tree reading
     → first_refusal reading.notes.hurt reading.walk.over ≡ Some why → read_of roots tree ≡ Err why
 unfolding read_of
-answer_refused roots apart tree reading why is found = ap (λ due. unless due (store_of roots tree)) (sym (refusal_is roots apart tree reading is) ∙ found)
+answer_refused roots apart tree reading why is found = ap (λ due. store_unless due (store_of roots tree)) (sym (refusal_is roots apart tree reading is) ∙ found)
 
 pub answer_read : (roots : Roots) → AreApart roots → (tree : Tree) (reading : Reading) (store : Store) → IsReading roots tree reading
     → first_refusal reading.notes.hurt reading.walk.over ≡ None → store ≡ store_of roots tree → read_of roots tree ≡ Ok store
 unfolding read_of
-answer_read roots apart tree reading store is none same = ap (λ due. unless due (store_of roots tree)) (sym (refusal_is roots apart tree reading is) ∙ none) ∙ ap Ok (sym same)
+answer_read roots apart tree reading store is none same = ap (λ due. store_unless due (store_of roots tree)) (sym (refusal_is roots apart tree reading is) ∙ none) ∙ ap Ok (sym same)
 
 -- no refusal is due where nothing is damaged and no limit passed
 unpassed : (harm far : Option Path) → first_refusal harm far ≡ None → far ≡ None

@@ -16,7 +16,7 @@ use Rattle.kb_world.specs.declared.tree.Kind.{Kind}
 use Rattle.kb_world.specs.declared.tree.Kind.TheVariants as kind
 use Rattle.kb_world.specs.declared.tree.Node.{Node}
 use Rattle.kb_world.specs.declared.tree.Node.TheVariants as node
-use Rattle.kb_store.specs.Walking.{below, entries, entry_block, passes_limit, meets, walk_on, is_dir_kind}
+use Rattle.kb_store.specs.Walking.{paths_below, entries, entry_block, passes_limit, meets, walk_on, is_dir_kind}
 use Rattle.kb_store.specs.declared.walking.Met.{Met}
 use Rattle.kb_store.specs.declared.walking.Walk.{Walk}
 use Rattle.kb_store.proofs.LookLaws.{Quiet}
@@ -150,18 +150,18 @@ filter-append test (x ∷ xs) ys = by (test x) (filter-append test xs ys)
     by false later = later
 
 module _ (tree : Tree) (skips : Path → Bool) (deeper : (path more : Path) → skips path ≡ true → skips (path ++ more) ≡ true) (d : Path) where
-  one_block : (name : List ℕ) → filter (λ path. not (skips path)) (child d name ∷ below tree (child d name)) ≡ entry_block tree skips d name
+  one_block : (name : List ℕ) → filter (λ path. not (skips path)) (child d name ∷ paths_below tree (child d name)) ≡ entry_block tree skips d name
   one_block name = by (skips (child d name)) refl
     where
       by : (b : Bool) → skips (child d name) ≡ b → cond (not b) (child d name ∷ entries tree skips (child d name)) (entries tree skips (child d name)) ≡ cond b [] (child d name ∷ entries tree skips (child d name))
       by true e = below_skipped skips deeper (child d name) e (keys tree)
       by false e = refl
 
-  blocks : (names : List (List ℕ)) → filter (λ path. not (skips path)) (flat_map (λ name. child d name ∷ below tree (child d name)) names) ≡ flat_map (entry_block tree skips d) names
+  blocks : (names : List (List ℕ)) → filter (λ path. not (skips path)) (flat_map (λ name. child d name ∷ paths_below tree (child d name)) names) ≡ flat_map (entry_block tree skips d) names
   blocks [] = refl
   blocks (name ∷ names) =
-      filter-append (λ path. not (skips path)) (child d name ∷ below tree (child d name)) (flat_map (λ name. child d name ∷ below tree (child d name)) names)
-      ∙ ap (λ b. b ++ filter (λ path. not (skips path)) (flat_map (λ name. child d name ∷ below tree (child d name)) names)) (one_block name)
+      filter-append (λ path. not (skips path)) (child d name ∷ paths_below tree (child d name)) (flat_map (λ name. child d name ∷ paths_below tree (child d name)) names)
+      ∙ ap (λ b. b ++ filter (λ path. not (skips path)) (flat_map (λ name. child d name ∷ paths_below tree (child d name)) names)) (one_block name)
       ∙ ap (λ l. entry_block tree skips d name ++ l) (blocks names)
 
   pub visited_all : IsFormed tree → (most deepest : ℕ) (before after : Walk) (names : List (List ℕ)) (count : ℕ) → names ≡ children tree d → length names ≤ count

@@ -17,7 +17,7 @@ use Rattle.kb_world.specs.declared.tree.Node.{Node}
 use Rattle.kb_world.proofs.PathLaws.{under-append, under-beside, drop-front}
 use Rattle.kb_world.proofs.StepLaws.{parent-child}
 use Rattle.kb_world.proofs.DamageLaws.{under-split}
-use Rattle.kb_store.specs.Walking.{below}
+use Rattle.kb_store.specs.Walking.{paths_below}
 use Rattle.kb_store.proofs.OrderLaws.{untrue, rises, is_in, in_more, sole, is_beyond, beyond, heads, grouped, IsClosed, in_groups}
 use Rattle.kb_world.proofs.PathLaws.{by_test}
 
@@ -265,13 +265,13 @@ map_groups d paths (name ∷ names) =
     ∙ ap (λ l. (child d name ∷ filter (λ path. is_below path (child d name)) paths) ++ l) (map_groups d paths names)
 
 -- what is below a directory: each entry, and what is below it
-pub below_entries : (tree : Tree) → IsFormed tree → (d : Path) → below tree d ≡ flat_map (λ name. child d name ∷ below tree (child d name)) (children tree d)
+pub below_entries : (tree : Tree) → IsFormed tree → (d : Path) → paths_below tree d ≡ flat_map (λ name. child d name ∷ paths_below tree (child d name)) (children tree d)
 below_entries tree formed d =
     sym (unstrip d (keys tree)) ∙ ap (map (λ r. d ++ r)) (grouped_below tree formed d) ∙ map_groups d (keys tree) (heads (stripped d (keys tree)))
-    ∙ ap (flat_map (λ name. child d name ∷ below tree (child d name))) (entry_names d (keys tree))
+    ∙ ap (flat_map (λ name. child d name ∷ paths_below tree (child d name))) (entry_names d (keys tree))
 
 -- below what is no directory there is nothing
-pub below_leaf : (tree : Tree) → IsFormed tree → (d : Path) → is_dir (node_at tree d) ≡ false → below tree d ≡ []
+pub below_leaf : (tree : Tree) → IsFormed tree → (d : Path) → is_dir (node_at tree d) ≡ false → paths_below tree d ≡ []
 below_leaf tree formed d leaf = sym (unstrip d (keys tree)) ∙ ap (map (λ r. d ++ r)) (none (stripped d (keys tree)) refl)
   where
     none : (paths : List Path) → stripped d (keys tree) ≡ paths → stripped d (keys tree) ≡ []

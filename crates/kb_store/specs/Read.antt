@@ -32,13 +32,13 @@ first_refusal (Some harm) (Some far) = Some (cond (is_lt (path_cmp harm far)) (r
 abbrev pub store_refusal : Roots → Tree → Option Refusal
 store_refusal roots store = first_refusal (hurt roots store) (over roots store)
 
-abbrev pub unless : Option Refusal → Store → Result Store Refusal
-unless None store = Ok store
-unless (Some why) store = Err why
+abbrev pub store_unless : Option Refusal → Store → Result Store Refusal
+store_unless None store = Ok store
+store_unless (Some why) store = Err why
 
 -- the store of a public tree, or its refusal
 unfoldable pub read_of : Roots → Tree → Result Store Refusal
-read_of roots store = unless (store_refusal roots store) (store_of roots store)
+read_of roots store = store_unless (store_refusal roots store) (store_of roots store)
 
 -- ---- what a reading is of
 

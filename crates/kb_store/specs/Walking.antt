@@ -12,12 +12,12 @@ use Rattle.kb_store.specs.declared.walking.Met.{Met}
 use Rattle.kb_store.specs.declared.walking.Walk.{Walk}
 
 -- the paths below a directory
-abbrev pub below : Tree → Path → List Path
-below tree directory = filter (λ path. is_below path directory) (keys tree)
+abbrev pub paths_below : Tree → Path → List Path
+paths_below tree directory = filter (λ path. is_below path directory) (keys tree)
 
 -- without those that are skipped
 abbrev pub entries : Tree → (Path → Bool) → Path → List Path
-entries tree skips directory = filter (λ path. not (skips path)) (below tree directory)
+entries tree skips directory = filter (λ path. not (skips path)) (paths_below tree directory)
 
 -- an entry of a directory, and those below it
 abbrev pub entry_block : Tree → (Path → Bool) → Path → List ℕ → List Path

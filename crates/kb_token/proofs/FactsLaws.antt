@@ -8,7 +8,7 @@ use Rattle.kb_world.specs.Tree.{Tree, node_at, is_dir}
 use Rattle.kb_world.specs.State.{State, HasCause, Looks}
 use Rattle.kb_world.specs.Does.{Gives, IsAnswer}
 use Rattle.kb_world.specs.Read.{IsRead}
-use Rattle.kb_world.proofs.DoesLaws.{ran_none_then}
+use Rattle.kb_world.proofs.DoesLaws.{unchanged_then}
 use Rattle.kb_world.specs.declared.job.TokenChoice.{TokenChoice}
 use Rattle.kb_world.specs.declared.roots.Roots.{Roots}
 use Rattle.kb_world.specs.declared.refusal.Refusal.{Refusal}
@@ -17,7 +17,8 @@ use Rattle.kb_world.specs.declared.stop.Stop.TheVariants.{Refused, Fault, NoMemo
 use Rattle.kb_world.specs.declared.world.WorldError.{WorldError}
 use Rattle.kb_world.specs.declared.world.WorldError.TheVariants.{Failed}
 use Rattle.kb_token.specs.Sources.{Contents, contents_in, contents_of, all_sources}
-use Rattle.kb_token.specs.Facts.{facts, facts_for, facts_with, token_from, chosen_token, first_too_large, unless_due}
+use Rattle.kb_token.specs.Facts.{facts, facts_for, facts_with, token_from, chosen_token, first_too_large}
+use Rattle.kb_world.specs.Read.{unless_due}
 use Rattle.kb_token.specs.Token.{token_of}
 use Rattle.kb_token.specs.declared.facts.BootFacts.{BootFacts}
 use Rattle.kb_token.specs.declared.sources.Content.{Content}
@@ -55,7 +56,7 @@ other_cause old new first second a never = record {
   later = a.later;
   rose = λ failed. absurd (never failed);
   steady = a.steady;
-  never = λ is failed. never failed;
+  never = λ told is failed. never failed;
 }
 
 same_error : {T U : Type 0} (stop : Stop) → ◌≡◌ {A = Result U Stop} (Err stop) (Err Fault) → ◌≡◌ {A = Result T Stop} (Err stop) (Err Fault)
@@ -71,8 +72,7 @@ pub gives_refused : (roots : Roots) (choice : TokenChoice) (old new : State) (re
     → IsRead {T = List ℕ} (Err stop) (token_from roots (contents_of read) choice) → Gives {T = BootFacts} (facts roots choice) old new (Err stop)
 gives_refused roots choice old new read stop are looks said = record {
   answers = λ tree told. refused_answer roots choice tree stop (subst (λ contents. IsRead {T = List ℕ} (Err stop) (token_from roots contents choice)) (contents_are (contents_in roots tree) read (are tree told)) said);
-  tree = looks.tree;
-  ran_none = looks.ran_none;
+  unchanged = looks.unchanged;
   cause = other_cause old new (Ok read) (Err stop) looks.cause (λ e. no_fault {T = List ℕ} (Err stop) _ said (same_error stop e));
 }
 
@@ -89,14 +89,13 @@ pub gives_facts : (roots : Roots) (choice : TokenChoice) (old mid new : State) (
     → ForSome mid.tree (λ tree. token_dir ≡ is_dir (node_at tree path)) → Looks {T = Bool} mid new (Ok token_dir) → made ≡ facts_with roots (contents_of read) token token_dir → Gives (facts roots choice) old new (Ok made)
 gives_facts roots choice old mid new read token path token_dir made are looks said at dir looked is = record {
   answers = λ tree told.
-      facts_are roots choice tree read token path token_dir made (contents_are (contents_in roots tree) read (are tree told)) said at (dir tree (looks.tree ∙ told)) is;
-  tree = looked.tree ∙ looks.tree;
-  ran_none = ran_none_then old mid new looks.ran_none looked.ran_none;
+      facts_are roots choice tree read token path token_dir made (contents_are (contents_in roots tree) read (are tree told)) said at (dir tree (looks.unchanged.tree ∙ told)) is;
+  unchanged = unchanged_then old mid new looks.unchanged looked.unchanged;
   cause = record {
     later = omega (arith, looks.cause.later, looked.cause.later);
     rose = λ failed. let impossible : Ok made ≡ Err Fault = failed in cc;
     steady = λ was. looked.cause.steady (looks.cause.steady was);
-    never = λ was failed. let impossible : Ok made ≡ Err Fault = failed in cc;
+    never = λ told was failed. let impossible : Ok made ≡ Err Fault = failed in cc;
   };
 }
 

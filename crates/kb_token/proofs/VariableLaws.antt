@@ -8,7 +8,7 @@ use Rattle.std.proofs.lemmas.Str.{IsCharBoundary-after_ascii, IsUtf8-drop}
 use Rattle.std.proofs.Math.Seq.{get_or-append_seam, drop-append-add, take-append_seam}
 use Rattle.std.proofs.lemmas.Bool.{ne_eqb}
 use Rattle.std.proofs.lemmas.Bool.Decides.{nat_tests}
-use Rattle.kb_token.specs.Variable.{has, before_quote, between, unescaped, is_escapable, begins_escapable, is_closed, BACKSLASH, DOUBLE_QUOTE, given_value, value_for, variable_of, spelled_value, EQUALS}
+use Rattle.kb_token.specs.Variable.{has, before_quote, between, unescaped, is_escapable, begins_escapable, is_closed, BACKSLASH, DOUBLE_QUOTE, variable_value, value_for, variable_of, spelled_value, EQUALS}
 use Rattle.kb_token.specs.Lines.{trimmed}
 
 -- ---- quotes
@@ -69,13 +69,13 @@ unescaped_whole (c ∷ rest) none =
 
 -- ---- the last line that gives a key
 
-pub given_more : (key : List ℕ) (lines : List (List ℕ)) (line : List ℕ) → given_value key (lines ++ line ∷ []) ≡ option_or (value_for key (variable_of line)) (given_value key lines)
+pub given_more : (key : List ℕ) (lines : List (List ℕ)) (line : List ℕ) → variable_value key (lines ++ line ∷ []) ≡ option_or (value_for key (variable_of line)) (variable_value key lines)
 given_more key [] line = or_none (value_for key (variable_of line))
   where
     or_none : (o : Option (List ℕ)) → option_or None o ≡ option_or o None
     or_none None = refl
     or_none (Some x) = refl
-given_more key (first ∷ lines) line = ap (λ o. option_or o (value_for key (variable_of first))) (given_more key lines line) ∙ or_assoc (value_for key (variable_of line)) (given_value key lines) _
+given_more key (first ∷ lines) line = ap (λ o. option_or o (value_for key (variable_of first))) (given_more key lines line) ∙ or_assoc (value_for key (variable_of line)) (variable_value key lines) _
   where
     or_assoc : (a b c : Option (List ℕ)) → option_or (option_or a b) c ≡ option_or a (option_or b c)
     or_assoc None b c = refl

@@ -5,25 +5,23 @@ use Rattle.std.specs.Option.{ForSome}
 use Rattle.std.proofs.lemmas.List.{map-append}
 use Rattle.kb_world.specs.Path.{Path}
 use Rattle.kb_world.specs.Tree.{Tree}
-use Rattle.kb_world.specs.State.{State, Looks, RanNone}
+use Rattle.kb_world.specs.State.{State, Looks, Unchanged}
 use Rattle.kb_world.specs.declared.roots.Roots.{Roots}
 use Rattle.kb_world.specs.declared.world.WorldError.{WorldError}
-use Rattle.kb_world.proofs.DoesLaws.{ran_none_then}
+use Rattle.kb_world.proofs.DoesLaws.{unchanged_then}
 use Rattle.kb_token.specs.Sources.{contents_in, content_at, path_of_source, all_sources}
 use Rattle.kb_token.specs.declared.sources.Content.{Content}
 use Rattle.kb_token.specs.declared.sources.Source.{Source}
 
 -- since then nothing was done but looks that succeeded
 pub record Quiet (old new : State) : Type 0 where
-  pub tree : new.tree ≡ old.tree
-  pub ran_none : RanNone old new
+  pub unchanged : Unchanged old new
   pub later : old.faults ≤ new.faults
   pub steady : IsTrue old.steady → IsTrue new.steady
 
 pub quiet_then : {T : Type 0} (old mid new : State) (result : Result T WorldError) → Quiet old mid → Looks mid new result → Quiet old new
 quiet_then old mid new result a b = record {
-  tree = b.tree ∙ a.tree;
-  ran_none = ran_none_then old mid new a.ran_none b.ran_none;
+  unchanged = unchanged_then old mid new a.unchanged b.unchanged;
   later = omega (arith, a.later, b.cause.later);
   steady = λ is. b.cause.steady (a.steady is);
 }
@@ -42,7 +40,7 @@ read_more old mid new result roots sources contents count source content so_far 
   quiet = quiet_then old mid new result so_far.quiet looks;
   all = so_far.all;
   read = λ tree told.
-      ap (λ c. c ++ content ∷ []) (so_far.read tree told) ∙ ap (λ c. map (contents_in roots tree) (take count sources) ++ c ∷ []) (one tree (so_far.quiet.tree ∙ told))
+      ap (λ c. c ++ content ∷ []) (so_far.read tree told) ∙ ap (λ c. map (contents_in roots tree) (take count sources) ++ c ∷ []) (one tree (so_far.quiet.unchanged.tree ∙ told))
       ∙ sym (map-append (contents_in roots tree) (take count sources) (source ∷ [])) ∙ ap (map (contents_in roots tree)) (sym more);
 }
 

@@ -3,6 +3,7 @@ use Rattle.std.specs.Prelude.{ℕ, Bool, cond, List, [], ◌∷◌, ◌++◌, fl
 use Rattle.std.specs.List.{list_any}
 use Rattle.std.specs.Option.{option_or, option_map_or, unwrap_or}
 use Rattle.kb_world.specs.Path.{Path, child, path_text}
+use Rattle.kb_world.specs.Read.{unless_due}
 use Rattle.kb_world.specs.Tree.{Tree, node_at, is_dir}
 use Rattle.kb_world.specs.declared.job.TokenChoice.{TokenChoice}
 use Rattle.kb_world.specs.declared.job.TokenChoice.TheVariants as choice
@@ -121,10 +122,6 @@ facts_with roots contents token token_dir = record {
   tries = tries contents;
   warnings = warnings roots contents;
 }
-
-abbrev pub unless_due : Option Refusal → Result (List ℕ) Refusal → Result (List ℕ) Refusal
-unless_due (Some due) said = Err due
-unless_due None said = said
 
 -- the token, or the first refusal
 abbrev pub token_from : Roots → Contents → TokenChoice → Result (List ℕ) Refusal

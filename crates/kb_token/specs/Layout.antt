@@ -1,7 +1,7 @@
 -- The layout, after kernel-install(8). How `auto` chooses is this project's own.
 use Rattle.std.specs.Prelude.{ℕ, cond, List, Option, Some, None, codes, bytes_eq, Bool}
 use Rattle.kb_token.specs.Lines.{lines_of, first_line}
-use Rattle.kb_token.specs.Variable.{given_value}
+use Rattle.kb_token.specs.Variable.{variable_value}
 use Rattle.kb_token.specs.declared.layout.Layout.{Layout}
 use Rattle.kb_token.specs.declared.layout.Layout.TheVariants.{Bls, Uki, Other, Auto}
 
@@ -12,7 +12,7 @@ layout_named name =
 
 -- the last line `layout=` of an install.conf
 abbrev pub conf_layout : List ℕ → Option (List ℕ)
-conf_layout text = given_value (codes "layout") (lines_of text)
+conf_layout text = variable_value (codes "layout") (lines_of text)
 
 abbrev pub by_srel : Option (List ℕ) → Bool → Layout
 by_srel (Some text) token_dir = cond (bytes_eq (first_line text) (codes "type1")) Bls Other

@@ -134,6 +134,6 @@ value_for key None = None
 value_for key (Some variable) = cond (bytes_eq variable.key key) (Some variable.value) None
 
 -- the value of the last line that gives the key
-abbrev pub given_value : List ℕ → List (List ℕ) → Option (List ℕ)
-given_value key [] = None
-given_value key (line ∷ lines) = option_or (given_value key lines) (value_for key (variable_of line))
+abbrev pub variable_value : List ℕ → List (List ℕ) → Option (List ℕ)
+variable_value key [] = None
+variable_value key (line ∷ lines) = option_or (variable_value key lines) (value_for key (variable_of line))

@@ -177,7 +177,7 @@ fn value_for(key: &str, told: Option<Variable>) -> Option<Text>
 
 /// The value of the last line that gives the key.
 pub fn given_value(alloc: Global, key: &str, lines: &[&str]) -> Result<Option<Text>, AllocError>
-    ensures { IfOk result (λ value. value ≡ rule.given_value key.now (map (λ line. line.now) lines.now)) }
+    ensures { IfOk result (λ value. value ≡ rule.variable_value key.now (map (λ line. line.now) lines.now)) }
 {
     let mut last = None;
     for line in lines {

@@ -1,13 +1,13 @@
 use Rattle.std.proofs.Common.{◌≡◌, ◌<◌, List, ℕ, ap, sym, ◌∙◌, subst, length, map, take, drop, get_or, arith}
 use Rattle.std.proofs.lemmas.List.{drop_all, length-map}
 use Rattle.kb_conf.specs.declared.targets.Placed.{Placed}
-use Rattle.kb_conf.specs.Placed.{number_in}
+use Rattle.kb_conf.specs.Placed.{target_number}
 use Rattle.kb_conf.proofs.ChecksLaws.{target_passes, target_found, targets_end}
 use Rattle.kb_conf.proofs.PlacedLaws.{bad_at_index}
 use Rattle.kb_conf.proofs.targets.bad_targets.Goals as goal
 
-same_length : (targets : List Placed) (numbers : List ℕ) → map number_in targets ≡ numbers → length numbers ≡ length targets
-same_length targets numbers same = ap length (sym same) ∙ length-map targets number_in
+same_length : (targets : List Placed) (numbers : List ℕ) → map target_number targets ≡ numbers → length numbers ≡ length targets
+same_length targets numbers same = ap length (sym same) ∙ length-map targets target_number
 
 within : (targets seen : List Placed) (k : ℕ) → seen ≡ targets → k < length seen → k < length targets
 within targets seen k same lt = subst (λ (l : List Placed). k < length l) same lt
