@@ -16,9 +16,9 @@ use crate::warnings::warnings_of;
 use kb_world::{Kind, Path, Refusal, Roots, Stop, Text, Texts, TokenChoice, World, WorldError};
 use std::alloc::{AllocError, Global};
 
-/// What the boot files of a kernel are made from. The layout is the one to use, so it is never `Auto`. The title is
-/// the name of the operating system, and the sort key that of its image, else of the system. A warning is a line
-/// without its line feed.
+/// What the boot files of a kernel are made from. The layout is the one to use, so it is never
+/// `Auto`. The title is the name of the operating system, and the sort key that of its image,
+/// else of the system. A warning is a line without its line feed.
 #[derive(Debug, Drop)]
 pub struct BootFacts {
     pub token: Text,
@@ -37,7 +37,8 @@ fn first_too_large(
     roots: &Roots,
     sources: &Sources,
 ) -> Result<Option<Refusal>, AllocError>
-    ensures { IfOk result (λ due. due ≡ rule.first_too_large roots.now (contents_of sources.now) all_sources) }
+    ensures { IfOk result (λ due.
+        due ≡ rule.first_too_large roots.now (contents_of sources.now) all_sources) }
 {
     for source in SOURCES {
         if sources.is_too_large(source) {
@@ -63,7 +64,8 @@ fn token_from(
 }
 
 fn is_directory<W: World>(alloc: Global, world: &mut W, path: &Path) -> Result<bool, WorldError>
-    ensures directory { IfOk result (λ is. ForSome (W.state world.old).tree (λ tree. is ≡ is_dir (node_at tree path.now))) }
+    ensures directory { IfOk result (λ is. ForSome (W.state world.old).tree (λ tree.
+        is ≡ is_dir (node_at tree path.now))) }
     ensures same { Looks (W.state world.old) (W.state world.new) result }
 {
     match world.look(alloc, path)? {
@@ -79,7 +81,8 @@ fn facts_with(
     token: Text,
     token_dir: bool,
 ) -> Result<BootFacts, AllocError>
-    ensures { IfOk result (λ facts. facts ≡ rule.facts_with roots.now (contents_of sources.now) token token_dir) }
+    ensures { IfOk result (λ facts.
+        facts ≡ rule.facts_with roots.now (contents_of sources.now) token token_dir) }
 {
     let asked = asked_layout(alloc, sources)?;
     let layout = choose_layout(&asked, sources.text(Source::EntriesSrel), token_dir);
@@ -95,16 +98,18 @@ fn facts_with(
     })
 }
 
-/// The boot facts, after kernel-install(8). Each source that is a regular file is read once, also where another
-/// source or the choice decides. Refused where a source has more than 65,536 bytes, for the first of them in the order
-/// of reading, then where no source gives a token, and then where the token can't be one. It changes nothing.
+/// The boot facts, after kernel-install(8). Each source that is a regular file is read once, also
+/// where another source or the choice decides. Refused where a source has more than 65,536 bytes,
+/// for the first of them in the order of reading, then where no source gives a token, and then
+/// where the token can't be one. It changes nothing.
 pub fn boot_facts<W: World>(
     alloc: Global,
     world: &mut W,
     roots: &Roots,
     choice: &TokenChoice,
 ) -> Result<BootFacts, Stop>
-    ensures { Gives (rule.facts roots.now choice.now) (W.state world.old) (W.state world.new) result }
+    ensures { Gives (rule.facts roots.now choice.now) (W.state world.old) (W.state world.new)
+        result }
 {
     let sources = Sources::read(alloc, world, roots)?;
     let token = match token_from(alloc, roots, &sources, choice) {

@@ -70,7 +70,8 @@ pub fn chosen_token(
     sources: &Sources,
     choice: &TokenChoice,
 ) -> Result<Option<Text>, AllocError>
-    ensures { IfOk result (λ token. token ≡ rule.chosen_token (contents_of sources.now) choice.now) }
+    ensures { IfOk result (λ token.
+        token ≡ rule.chosen_token (contents_of sources.now) choice.now) }
 {
     match choice {
         TokenChoice::Auto => automatic_token(alloc, sources),

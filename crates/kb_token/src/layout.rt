@@ -8,8 +8,8 @@ use crate::variable::given_value;
 use kb_world::Text;
 use std::alloc::{AllocError, Global};
 
-/// How the files of a kernel are laid out on the boot partition: as Type #1 entries, as a unified image, or in a way
-/// that isn't this tool's. `Auto` says that it is still to be chosen.
+/// How the files of a kernel are laid out on the boot partition: as Type #1 entries, as a unified
+/// image, or in a way that isn't this tool's. `Auto` says that it is still to be chosen.
 #[derive(Clone, Copy, Debug, PartialEq, Eq)]
 pub enum Layout {
     Bls,
@@ -37,9 +37,9 @@ pub fn conf_layout(alloc: Global, text: &str) -> Result<Option<Text>, AllocError
     given_value(alloc, "layout", &lines_of(alloc, text)?)
 }
 
-/// The layout to use, which is never `Auto`: what is asked for, or where that is `Auto`, `Bls` where the first line of
-/// the text of `loader/entries.srel` is `type1`; without that file `Bls` where the token's directory is there. `Other`
-/// in all other cases.
+/// The layout to use, which is never `Auto`: what is asked for, or where that is `Auto`, `Bls`
+/// where the first line of the text of `loader/entries.srel` is `type1`; without that file `Bls`
+/// where the token's directory is there. `Other` in all other cases.
 pub fn choose_layout(asked: &Layout, srel: Option<&str>, token_dir: bool) -> Layout
     ensures chosen { result ≡ rule.chosen_layout asked.now (option_copied srel.entry) token_dir }
     ensures settled { result ≢ Layout.Auto }

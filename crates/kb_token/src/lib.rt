@@ -1,5 +1,5 @@
-//! The boot facts: machine ID, entry token, layout, title, sort key, command line and tries, as kernel-install(8)
-//! finds them in its sources.
+//! The boot facts: machine ID, entry token, layout, title, sort key, command line and tries, as
+//! kernel-install(8) finds them in its sources.
 #![tactic(auto)]
 
 mod facts;

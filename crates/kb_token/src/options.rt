@@ -1,6 +1,6 @@
 // The kernel's command line.
-ghost use Rattle.std.specs.Prelude.{◌≡◌, ◌<◌, ◌++◌, ◌∷◌, IfOk, OnOk, MatchOption, length, map, filter, not, flat_map};
-ghost use Rattle.std.specs.List.{slice_split, position_or_len, before_first, after_first, join_with_byte};
+ghost use Rattle.std.specs.Prelude.{◌≡◌, ◌<◌, IfOk, MatchOption, length, map, filter, not};
+ghost use Rattle.std.specs.List.{position_or_len, before_first, after_first, join_with_byte};
 ghost use Rattle.std.specs.Str.{byte};
 ghost use Rattle.kb_token.specs.Options as rule;
 
@@ -25,7 +25,8 @@ fn word_len(bytes: &[u8]) -> usize
 fn cut_at_separator(text: &str) -> Option<(&str, &str)>
     ensures { MatchOption result (position_or_len rule.is_separator text.now ≡ length text.now)
         (λ cut. (position_or_len rule.is_separator text.now < length text.now)
-        × (cut.0.now ≡ before_first rule.is_separator text.now) × (cut.1.now ≡ after_first rule.is_separator text.now)) }
+        × (cut.0.now ≡ before_first rule.is_separator text.now)
+        × (cut.1.now ≡ after_first rule.is_separator text.now)) }
 {
     let at = word_len(text.as_bytes());
     if at == text.len() {
@@ -61,7 +62,8 @@ fn is_loader_word(word: &str) -> bool
 
 // The words with a space between each two.
 fn joined(alloc: Global, words: &[&str]) -> Result<Text, AllocError>
-    ensures { IfOk result (λ text. text ≡ join_with_byte (byte " ") (map (λ word. word.now) words.now)) }
+    ensures { IfOk result (λ text.
+        text ≡ join_with_byte (byte " ") (map (λ word. word.now) words.now)) }
 {
     let mut text = Text::of(alloc, "")?;
     for (number, word) in words.iter().enumerate() {

@@ -20,7 +20,8 @@ fn without_return(line: &str) -> &str
 }
 
 fn release_lines(alloc: Global, text: &str) -> Result<Vec<&str>, AllocError>
-    ensures { IfOk result (λ lines. map (λ line. line.now) lines.items ≡ map rule.without_return (lines_of text.now)) }
+    ensures { IfOk result (λ lines.
+        map (λ line. line.now) lines.items ≡ map rule.without_return (lines_of text.now)) }
 {
     let mut kept = Vec::new(alloc);
     for line in &lines_of(alloc, text)? {
@@ -35,8 +36,8 @@ fn has_return(text: &str) -> bool
     text.as_bytes().iter().any(|c| *c == b'\r')
 }
 
-/// The value that an os-release file gives the key: that of the last line that does, unless it is empty or has a
-/// carriage return in it.
+/// The value that an os-release file gives the key: that of the last line that does, unless it is
+/// empty or has a carriage return in it.
 pub fn release_value(alloc: Global, key: &str, text: &str) -> Result<Option<Text>, AllocError>
     ensures { IfOk result (λ value. value ≡ rule.release_value key.now text.now) }
 {

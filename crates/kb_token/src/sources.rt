@@ -105,7 +105,8 @@ fn content_of(alloc: Global, bytes: &[u8]) -> Result<Content, AllocError>
 }
 
 fn read_content<W: World>(alloc: Global, world: &mut W, path: &Path) -> Result<Content, WorldError>
-    ensures content { IfOk result (λ content. ForSome (W.state world.old).tree (λ tree. content ≡ rule.content_at tree path.now)) }
+    ensures content { IfOk result (λ content. ForSome (W.state world.old).tree (λ tree.
+        content ≡ rule.content_at tree path.now)) }
     ensures same { Looks (W.state world.old) (W.state world.new) result }
 {
     match world.look(alloc, path)? {
@@ -142,7 +143,8 @@ impl Sources {
         world: &mut W,
         roots: &Roots,
     ) -> Result<Sources, WorldError>
-        ensures contents { IfOk result (λ sources. ForSome (W.state world.old).tree (λ tree. sources ≡ map (rule.contents_in roots.now tree) rule.all_sources)) }
+        ensures contents { IfOk result (λ sources. ForSome (W.state world.old).tree (λ tree.
+            sources ≡ map (rule.contents_in roots.now tree) rule.all_sources)) }
         ensures same { Looks (W.state world.old) (W.state world.new) result }
     {
         let mut contents = Vec::new(alloc);

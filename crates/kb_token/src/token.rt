@@ -18,7 +18,8 @@ fn has_only_lower_hex(bytes: &[u8]) -> bool
     bytes.iter().all(|c| matches!(c, b'0'..=b'9' | b'a'..=b'f'))
 }
 
-/// The machine ID that a machine-id file gives: its first line, where that is 32 lower-case hexadecimal digits.
+/// The machine ID that a machine-id file gives: its first line, where that is 32 lower-case
+/// hexadecimal digits.
 pub fn machine_id_of(alloc: Global, text: &str) -> Result<Option<Text>, AllocError>
     ensures { IfOk result (λ id. id ≡ rule.machine_id_of text.now) }
 {
@@ -29,7 +30,8 @@ pub fn machine_id_of(alloc: Global, text: &str) -> Result<Option<Text>, AllocErr
     Ok(None)
 }
 
-/// The token that an entry-token file gives: its first line without the blanks at its ends, where that isn't empty.
+/// The token that an entry-token file gives: its first line without the blanks at its ends, where
+/// that isn't empty.
 pub fn token_line(alloc: Global, text: &str) -> Result<Option<Text>, AllocError>
     ensures { IfOk result (λ token. token ≡ rule.token_line text.now) }
 {
@@ -77,8 +79,8 @@ fn is_entry_token(text: &str) -> bool
         && !ends_counted(text.as_bytes())
 }
 
-/// The token that was chosen. Refused where there is none, and where it isn't a boot word of at most 64 bytes, is
-/// `loader` or `EFI`, begins with `initrd.img-`, or ends in `+` and digits.
+/// The token that was chosen. Refused where there is none, and where it isn't a boot word of at
+/// most 64 bytes, is `loader` or `EFI`, begins with `initrd.img-`, or ends in `+` and digits.
 pub fn token_of(chosen: Option<Text>) -> Result<Text, Stop>
     ensures { IsRead result (rule.token_of chosen) }
 {

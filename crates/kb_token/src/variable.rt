@@ -1,5 +1,6 @@
 // Lines KEY=VALUE, as os-release(5) has them.
-ghost use Rattle.std.specs.Prelude.{◌≡◌, ◌<◌, drop, if◌then◌else◌, ◌∷◌, ◌++◌, [], List, ℕ, Some, None, IfOk, MatchOption, map, true, false, nat_eq};
+ghost use Rattle.std.specs.Prelude.{◌≡◌, ◌<◌, ◌∷◌, ◌++◌, if◌then◌else◌, true, false, drop, map};
+ghost use Rattle.std.specs.Prelude.{IfOk, MatchOption};
 ghost use Rattle.std.specs.Option.{option_copied};
 ghost use Rattle.kb_token.specs.Variable as rule;
 
@@ -54,7 +55,8 @@ fn begins_escapable(text: &str) -> bool
 
 // What a backslash and the text behind it give first, and the rest.
 fn behind_backslash(text: &str) -> (&str, &str)
-    ensures gives { rule.unescaped true text.now ≡ result.0.now ++ rule.unescaped false result.1.now }
+    ensures gives { rule.unescaped true text.now
+        ≡ result.0.now ++ rule.unescaped false result.1.now }
     ensures rest { result.1.now ≡ drop (if rule.begins_escapable text.now then 1 else 0) text.now }
 {
     if begins_escapable(text) {
@@ -141,10 +143,12 @@ fn spelled_value(alloc: Global, text: &str) -> Result<Option<Text>, AllocError>
     Ok(Some(Text::of(alloc, text)?))
 }
 
-/// The variable that a line KEY=VALUE gives, or none for every other line. The line stands without its line feed. The
-/// key is what stands before the first `=`. The value is bare, or between `'`, or between `"`, where a backslash before
-/// `"`, `$`, a backslash or a backquote gives that character. A bare value doesn't begin with a quote, and behind a
-/// closing quote only blanks may stand. Blanks at both ends of the value are dropped, outside of the quotes and inside.
+/// The variable that a line KEY=VALUE gives, or none for every other line. The line stands
+/// without its line feed. The key is what stands before the first `=`. The value is bare, or
+/// between `'`, or between `"`, where a backslash before `"`, `$`, a backslash or a backquote
+/// gives that character. A bare value doesn't begin with a quote, and behind a closing quote only
+/// blanks may stand. Blanks at both ends of the value are dropped, outside of the quotes and
+/// inside.
 pub fn read_variable(alloc: Global, line: &str) -> Result<Option<Variable>, AllocError>
     ensures { IfOk result (λ told. told ≡ rule.variable_of line.now) }
 {
@@ -177,7 +181,8 @@ fn value_for(key: &str, told: Option<Variable>) -> Option<Text>
 
 /// The value of the last line that gives the key.
 pub fn given_value(alloc: Global, key: &str, lines: &[&str]) -> Result<Option<Text>, AllocError>
-    ensures { IfOk result (λ value. value ≡ rule.variable_value key.now (map (λ line. line.now) lines.now)) }
+    ensures { IfOk result (λ value.
+        value ≡ rule.variable_value key.now (map (λ line. line.now) lines.now)) }
 {
     let mut last = None;
     for line in lines {

@@ -71,7 +71,8 @@ fn warn_of_source(
     source: Source,
     warnings: &mut Texts,
 ) -> Result<(), AllocError>
-    ensures { OnOk result (warnings.new ≡ warnings.old ++ rule.source_warnings roots.now (contents_of sources.now) source) }
+    ensures { OnOk result (warnings.new
+        ≡ warnings.old ++ rule.source_warnings roots.now (contents_of sources.now) source) }
 {
     if sources.is_not_text(source) {
         let path = source.path(alloc, roots)?;
@@ -86,7 +87,8 @@ fn warn_of_source(
 
 /// The warnings of all sources, in the order of reading.
 pub fn warnings_of(alloc: Global, roots: &Roots, sources: &Sources) -> Result<Texts, AllocError>
-    ensures { IfOk result (λ warnings. warnings ≡ rule.warnings roots.now (contents_of sources.now)) }
+    ensures { IfOk result (λ warnings.
+        warnings ≡ rule.warnings roots.now (contents_of sources.now)) }
 {
     let mut warnings = Texts::new(alloc);
     for source in SOURCES {

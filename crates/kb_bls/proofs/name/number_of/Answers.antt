@@ -3,4 +3,4 @@ use Rattle.kb_bls.proofs.NameLaws.{number_read}
 use Rattle.kb_bls.proofs.name.number_of.Goals as goal
 
 pub returns-then-is_number : goal.returns-then-is_number
-returns-then-is_number c = c.ok.ensures.value ∙ number_read c.args.text.now c.parse.result (sym c.is_count.ensures ∙ c.if-is_number.true) c.parse.ensures.value.0
+returns-then-is_number c = c.ok.ensures.value ∙ number_read c.args.text.now c.parse.result (sym c.is_number.ensures ∙ c.if-is_number.true) c.parse.ensures.value.0
