@@ -1,6 +1,8 @@
 // What is asked of a text alone: whether it keeps rules, and what it is read as.
 
+use crate::entry::{print_entry_name, print_parsed, print_sorted};
 use crate::error::LineError;
+use crate::facts::print_layout;
 use crate::line::Ask;
 use crate::text::Page;
 use kb_conf::{Assignment, Given, ReadError, is_pattern, matches, read_text, without_returns};
@@ -155,6 +157,15 @@ pub fn print_answer(
         Ask::Pattern { pattern, text } => {
             Ok(print_match(alloc, page, pattern.as_str(), text.as_str())?)
         }
+        Ask::Entry(bytes) => print_parsed(alloc, page, bytes),
+        Ask::EntryName(name) => Ok(print_entry_name(alloc, page, name.as_str())?),
+        Ask::Sort(words) => print_sorted(alloc, page, words.as_slice()),
+        Ask::Layout(laid) => Ok(print_layout(
+            page,
+            laid.asked.as_str(),
+            laid.srel.as_str(),
+            laid.has_directory,
+        )?),
     }
 }
 

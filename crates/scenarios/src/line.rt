@@ -7,7 +7,7 @@ use crate::fields::{
     word_text, words,
 };
 use crate::parts::{Part, read_part};
-use kb_world::{Bytes, Node, Path, Text, Texts};
+use kb_world::{Bytes, Node, Path, Text, Texts, TokenChoice};
 use std::alloc::Global;
 
 /// What a line says.
@@ -59,6 +59,7 @@ pub enum Show {
     Store,
     Claimant(Claimed),
     Conf(Path),
+    Facts(TokenChoice),
 }
 
 /// The kernel and the file that are claimed, and the module and the architecture that don't count.
@@ -79,6 +80,18 @@ pub enum Ask {
     Targets(Bytes),
     Assignments(Bytes),
     Pattern { pattern: Text, text: Text },
+    Entry(Bytes),
+    EntryName(Text),
+    Sort(Texts),
+    Layout(Laid),
+}
+
+/// The layout that is asked for, the text of `loader/entries.srel`, and whether the token's directory is there.
+#[derive(Drop)]
+pub struct Laid {
+    pub asked: Text,
+    pub srel: Text,
+    pub has_directory: bool,
 }
 
 fn set_line(set: Set) -> Result<Option<Line>, LineError> {
@@ -209,6 +222,20 @@ fn read_claimant(alloc: Global, rest: Option<&str>) -> Result<Option<Line>, Line
     }))
 }
 
+// How an entry token is chosen, as kernel-install's option has it.
+fn choice(alloc: Global, text: &str) -> Result<TokenChoice, LineError> {
+    match text {
+        "auto" => Ok(TokenChoice::Auto),
+        "machine-id" => Ok(TokenChoice::MachineId),
+        "os-id" => Ok(TokenChoice::OsId),
+        "os-image-id" => Ok(TokenChoice::OsImageId),
+        _ => match text.strip_prefix("literal:") {
+            Some(token) => Ok(TokenChoice::Literal(Text::of(alloc, token)?)),
+            None => Err(LineError::NotAChoice),
+        },
+    }
+}
+
 // The lines that print what the world has.
 fn read_show(alloc: Global, word: &str, rest: Option<&str>) -> Result<Option<Line>, LineError> {
     match word {
@@ -223,6 +250,7 @@ fn read_show(alloc: Global, word: &str, rest: Option<&str>) -> Result<Option<Lin
         }
         "claimant" => read_claimant(alloc, rest),
         "conf" => show_line(Show::Conf(last_path(alloc, rest)?)),
+        "facts" => show_line(Show::Facts(choice(alloc, last_text(alloc, rest)?.as_str())?)),
         _ => Ok(None),
     }
 }
@@ -252,6 +280,32 @@ fn read_ask(alloc: Global, word: &str, rest: Option<&str>) -> Result<Option<Line
     }
 }
 
+fn read_layout(alloc: Global, rest: Option<&str>) -> Result<Option<Line>, LineError> {
+    let (asked, rest) = split_field(rest)?;
+    let (srel, directory) = split_field(Some(rest))?;
+    let has_directory = match directory {
+        "yes" => true,
+        "no" => false,
+        _ => return Err(LineError::NotAChoice),
+    };
+    ask_line(Ask::Layout(Laid {
+        asked: word_text(alloc, asked)?,
+        srel: word_text(alloc, srel)?,
+        has_directory,
+    }))
+}
+
+// The lines that ask of boot entries and of the layout.
+fn read_boot(alloc: Global, word: &str, rest: Option<&str>) -> Result<Option<Line>, LineError> {
+    match word {
+        "entry" => ask_line(Ask::Entry(last_bytes(alloc, rest)?)),
+        "entry-name" => ask_line(Ask::EntryName(last_text(alloc, rest)?)),
+        "sort" => ask_line(Ask::Sort(words(alloc, rest)?)),
+        "layout" => read_layout(alloc, rest),
+        _ => Ok(None),
+    }
+}
+
 // The line, where one of the groups has its word.
 fn read_known(alloc: Global, word: &str, rest: Option<&str>) -> Result<Option<Line>, LineError> {
     if let Some(line) = read_setting(alloc, word, rest)? {
@@ -266,7 +320,10 @@ fn read_known(alloc: Global, word: &str, rest: Option<&str>) -> Result<Option<Li
     if let Some(line) = read_show(alloc, word, rest)? {
         return Ok(Some(line));
     }
-    read_ask(alloc, word, rest)
+    if let Some(line) = read_ask(alloc, word, rest)? {
+        return Ok(Some(line));
+    }
+    read_boot(alloc, word, rest)
 }
 
 /// The word that a line begins with, and what is left behind it.

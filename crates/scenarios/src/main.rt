@@ -6,7 +6,9 @@
 mod ask;
 mod conf;
 mod edit;
+mod entry;
 mod error;
+mod facts;
 mod fields;
 mod line;
 mod parts;

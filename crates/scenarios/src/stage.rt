@@ -6,6 +6,7 @@ use crate::ask::{given_for, print_answer};
 use crate::conf::print_conf;
 use crate::edit::{fill, place, place_zeros, remove};
 use crate::error::{BadLine, LineError};
+use crate::facts::print_facts;
 use crate::line::{Action, Show};
 use crate::run::{Failures, run};
 use crate::scene::{Scene, Step, usual_setting};
@@ -71,6 +72,7 @@ fn print(
         }
         Show::Store => print_store(alloc, world, &host.roots, page),
         Show::Claimant(claimed) => print_claimant(alloc, world, &host.roots, &claimed, page),
+        Show::Facts(choice) => print_facts(alloc, world, &host.roots, &choice, page),
         Show::Conf(path) => {
             let given = given_for(alloc, host)?;
             print_conf(alloc, world, &path, &given, page)
