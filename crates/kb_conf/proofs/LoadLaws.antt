@@ -5,9 +5,9 @@ use Rattle.std.specs.Option.{ForSome, option_or}
 use Rattle.std.proofs.lemmas.Bool.Decides.{nat_tests}
 use Rattle.kb_world.specs.Path.{Path}
 use Rattle.kb_world.specs.Tree.{Tree, node_at, is_file, file_bytes}
-use Rattle.kb_world.specs.State.{State, HasCause, RanNone}
+use Rattle.kb_world.specs.State.{State, HasCause}
 use Rattle.kb_world.specs.Does.{Decides, Agrees, IsAnswer, Gives}
-use Rattle.kb_world.proofs.DoesLaws.{ran_none_then}
+use Rattle.kb_world.proofs.DoesLaws.{unchanged_then}
 use Rattle.kb_world.specs.declared.job.Key.{Key}
 use Rattle.kb_world.specs.declared.refusal.Refusal.{Refusal}
 use Rattle.kb_world.specs.declared.refusal.Refusal.TheVariants as refusal
@@ -42,7 +42,7 @@ cause_moves old new stop h = record {
   later = h.later;
   rose = λ e. h.rose (error_moves stop Fault e);
   steady = h.steady;
-  never = λ is e. h.never is (error_moves stop Fault e);
+  never = λ told is e. h.never told is (error_moves stop Fault e);
 }
 
 after_due : (o : Option Refusal) (due : Refusal) (said : Result Conf Refusal) → o ≡ Some due → after o said ≡ Err due
@@ -60,8 +60,7 @@ pub gives_refused : (dir : Path) (key : Option Key) (given : Given) (path : Path
     Decides (no_source dir path) {T = Unit {0}} old mid (Err stop) → Gives (loaded_conf dir key given) old mid (Err stop)
 gives_refused dir key given path is old mid stop d = record {
   answers = λ tree told. refused_answer dir key given path is tree stop (d.agrees tree told);
-  tree = d.tree;
-  ran_none = d.ran_none;
+  unchanged = d.unchanged;
   cause = cause_moves old mid stop d.cause;
 }
 
@@ -90,13 +89,12 @@ pub gives_read : (dir : Path) (key : Option Key) (given : Given) (path : Path) �
     Decides (no_source dir path) {T = Unit {0}} old mid (Ok u) → GivesFile path mid new (Ok bytes) → IsRead result (matched key (conf_of bytes given)) →
     Gives (loaded_conf dir key given) old new result
 gives_read dir key given path is old mid new u bytes result d f h = record {
-  answers = λ tree told. read_answer result _ _ (loaded_is dir key given path is tree bytes (d.agrees tree told) (f.bytes tree (d.tree ∙ told))) h;
-  tree = f.tree ∙ d.tree;
-  ran_none = ran_none_then old mid new d.ran_none f.ran_none;
+  answers = λ tree told. read_answer result _ _ (loaded_is dir key given path is tree bytes (d.agrees tree told) (f.bytes tree (d.unchanged.tree ∙ told))) h;
+  unchanged = unchanged_then old mid new d.unchanged f.unchanged;
   cause = record {
     later = omega (arith, d.cause.later, f.cause.later);
     rose = λ e. absurd (no_fault result _ h e);
     steady = λ was. f.cause.steady (d.cause.steady was);
-    never = λ was e. no_fault result _ h e;
+    never = λ told was e. no_fault result _ h e;
   };
 }

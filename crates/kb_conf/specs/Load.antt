@@ -3,7 +3,7 @@ use Rattle.std.specs.Prelude.{◌≡◌, ℕ, Bool, ◌&&◌, List, Option, Some
 use Rattle.std.specs.Option.{ForSome, option_or}
 use Rattle.kb_world.specs.Path.{Path, child}
 use Rattle.kb_world.specs.Tree.{Tree, node_at, is_dir, is_file, file_bytes}
-use Rattle.kb_world.specs.State.{State, HasCause, RanNone}
+use Rattle.kb_world.specs.State.{State, HasCause, Unchanged}
 use Rattle.kb_world.specs.declared.job.Key.{Key}
 use Rattle.kb_world.specs.declared.refusal.Refusal.{Refusal}
 use Rattle.kb_world.specs.declared.refusal.Refusal.TheVariants as refusal
@@ -53,6 +53,5 @@ loaded_conf dir key given tree =
 pub record GivesFile (path : Path) (old new : State) (result : Result (List ℕ) Stop) : Type 0 where
   pub bytes : IfOk result (λ bytes. ForSome old.tree (λ tree. file_bytes (node_at tree path) ≡ Some bytes))
   pub unrefused : (due : Refusal) → IsErrOf result (Refused due) → ⊥
-  pub tree : new.tree ≡ old.tree
-  pub ran_none : RanNone old new
+  pub unchanged : Unchanged old new
   pub cause : HasCause Fault old new result

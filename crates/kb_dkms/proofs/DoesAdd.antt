@@ -163,7 +163,7 @@ warned_added host apart key good conf places are old mid new before between afte
     does_then roots (warn (unused_lines conf.unused)) (unless (blocked roots key) then add_and_run host old.script key conf) old old new before between after result
     (does_warn roots (unused_lines conf.unused) old before between out (err ∙ ap (λ n. before.err ++ unused_lines n) all))
     (does_passed roots (place_blocked places) (blocked roots key) (add_and_run host old.script key conf) old mid new between after result (read_blocked roots apart key good places are) d
-    (subst P d.ran_none.lasts.script e))
+    (subst P d.unchanged.ran_none.lasts.script e))
 
 -- ---- the whole action
 
@@ -172,8 +172,7 @@ decides_as : (read due : Tree → Option Refusal) (old new : State) (result : Re
     → Decides read {T = Unit {0}} old new result → Decides due {T = Unit {0}} old new result
 decides_as read due old new result same d = record {
   agrees = λ tree told. let P : Option Refusal → Type 0 = λ is. Agrees result is in subst P (same tree told) (d.agrees tree told);
-  tree = d.tree;
-  ran_none = d.ran_none;
+  unchanged = d.unchanged;
   cause = d.cause;
 }
 
@@ -228,4 +227,4 @@ add_read host apart key good link is dir at given for conf old mid late new befo
     does_passed roots (λ tree. already_added roots key (public_tree roots tree)) (already_added roots key) next old mid new before after result (λ tree. refl)
     (decides_added roots apart key good link is old mid (Ok tt) sound d)
     (does_read {A = Conf} roots (loaded_conf dir (Some key) given) (source_conf host key) (add_with host old.script key) conf mid late new before after result
-    (read_conf host apart key good dir at given for) g (subst P (g.ran_none.lasts.script ∙ d.ran_none.lasts.script) e))
+    (read_conf host apart key good dir at given for) g (subst P (g.unchanged.ran_none.lasts.script ∙ d.unchanged.ran_none.lasts.script) e))

@@ -47,7 +47,7 @@ unanswered roots action request old new before after (Refused refusal) a = absur
 unanswered roots action request old new before after Fault a = record {
   answers = λ tree told rooted. tt;
   lasts = a.lasts;
-  cause = record { later = a.cause.later; rose = λ failed. a.cause.rose refl; steady = a.cause.steady; never = λ is failed. a.cause.never is refl };
+  cause = record { later = a.cause.later; rose = λ failed. a.cause.rose refl; steady = a.cause.steady; never = λ told is failed. a.cause.never told is refl };
 }
 unanswered roots action request old new before after NoMemory a = does_nothing_told roots action old new before after a.lasts a.cause.later a.cause.steady
 

@@ -32,7 +32,7 @@ planned old new result plan later faults was_steady is_steady due = record {
   later = later;
   rose = λ e. rose (is_due plan) old.faults new.faults faults (due e);
   steady = λ steady. is_steady ∙ over-after plan (sym was_steady ∙ steady);
-  never = λ steady e. over-due plan (sym was_steady ∙ steady) (due e);
+  never = λ told steady e. over-due plan (sym was_steady ∙ steady) (due e);
 }
 
 -- a call that only looks, under its plan
@@ -41,8 +41,7 @@ pub looks : {T : Type 0} (old new : State) (result : Result T WorldError) (plan 
     → old.steady ≡ is_over plan → new.steady ≡ is_over (after_call plan)
     → (IsErrOf result Failed → IsTrue (is_due plan)) → Looks old new result
 looks old new result plan tree ran_none later faults was_steady is_steady due = record {
-  tree = tree;
-  ran_none = ran_none;
+  unchanged = record { tree = tree; ran_none = ran_none };
   cause = planned old new result plan later faults was_steady is_steady due;
 }
 

@@ -21,7 +21,7 @@ other_answer old new error cause = record {
   later = cause.later;
   rose = λ failed. cause.rose (same failed);
   steady = cause.steady;
-  never = λ steady failed. cause.never steady (same failed);
+  never = λ told steady failed. cause.never told steady (same failed);
 }
   where
     same : {T U : Type 0} → IsErrOf {T = U} (Err error) Failed → IsErrOf {T = T} (Err error) Failed
@@ -61,7 +61,7 @@ runs_cut_off request old new before after result want was is left lasts cause ra
     by_result (Err NoMemory) want = record {
       ends = λ t told. ((after, is, subst (λ t. IsLeft request.area t after) (unwrapped before t (sym was ∙ told)) left), inr ran);
       lasts = lasts;
-      cause = record { later = cause.later; rose = λ failed. cc; steady = cause.steady; never = λ steady failed. cc };
+      cause = record { later = cause.later; rose = λ failed. cc; steady = cause.steady; never = λ told steady failed. cc };
     }
 
 -- whatever it left is formed, and lies in its area

@@ -24,7 +24,7 @@ untold_cause before after result later faults = record {
   later = later;
   rose = rose before after result faults;
   steady = λ steady. steady;
-  never = λ steady _. grind arith;
+  never = λ told steady _. grind arith;
 }
 
 untold_lasts : (before after : ℕ) → Lasts (untold before) (untold after)
@@ -36,8 +36,7 @@ untold_ran_none before after = record { ran = refl; lasts = untold_lasts before 
 pub untold_looks : {T : Type 0} (before after : ℕ) (result : Result T WorldError) → before ≤ after → after ≡ faults_after result before
     → Looks (untold before) (untold after) result
 untold_looks before after result later faults = record {
-  tree = refl;
-  ran_none = untold_ran_none before after;
+  unchanged = record { tree = refl; ran_none = untold_ran_none before after };
   cause = untold_cause before after result later faults;
 }
 

@@ -48,7 +48,7 @@ pub files_more : {T : Type 0} (old mid new : State) (result : Result T WorldErro
 files_more old mid new result before here after modules places count place so_far more looks one = record {
   quiet = quiet_then old mid new result so_far.quiet looks;
   noted = λ tree told.
-      one tree (so_far.quiet.tree ∙ told) ∙ ap (λ n. harmed n (lost_files tree modules (place ∷ []))) (so_far.noted tree told)
+      one tree (so_far.quiet.unchanged.tree ∙ told) ∙ ap (λ n. harmed n (lost_files tree modules (place ∷ []))) (so_far.noted tree told)
       ∙ harmed_then before (lost_files tree modules (take count places)) (lost_files tree modules (place ∷ []))
       ∙ ap (harmed before) (sym (lost-append tree modules (take count places) (place ∷ [])) ∙ ap (lost_files tree modules) (sym more));
 }

@@ -16,7 +16,7 @@ use Rattle.kb_world.specs.declared.stop.Stop.TheVariants.{Refused, Fault, NoMemo
 use Rattle.kb_world.specs.declared.world.WorldError.{WorldError}
 use Rattle.kb_world.specs.declared.world.WorldError.TheVariants.{Failed}
 use Rattle.kb_world.proofs.DamageLaws.{under-split}
-use Rattle.kb_world.proofs.DoesLaws.{cause_then, ran_none_then}
+use Rattle.kb_world.proofs.DoesLaws.{cause_then, unchanged_then}
 use Rattle.kb_world.specs.Public.{is_private}
 use Rattle.kb_world.specs.Roots.{AreApart, is_below}
 use Rattle.kb_world.specs.Store.{added_at}
@@ -218,20 +218,18 @@ pub gives_read : {A B : Type 0} (right : Tree → Result A Refusal) (old new : S
     → Looks old new looked → ((tree : Tree) → old.tree ≡ Some tree → IsAnswer result (right tree)) → (IsErrOf result Fault → ⊥) → Gives right old new result
 gives_read right old new looked result looks answers never = record {
   answers = answers;
-  tree = looks.tree;
-  ran_none = looks.ran_none;
+  unchanged = looks.unchanged;
   cause = record {
     later = looks.cause.later;
     rose = λ failed. absurd (never failed);
     steady = looks.cause.steady;
-    never = λ is failed. never failed;
+    never = λ told is failed. never failed;
   };
 }
 
 -- two calls that only looked
 pub looks_twice : {A B : Type 0} (old mid new : State) (first : Result A WorldError) (second : Result B WorldError) → Looks old mid first → Looks mid new second → Looks old new second
 looks_twice old mid new first second a b = record {
-  tree = b.tree ∙ a.tree;
-  ran_none = ran_none_then old mid new a.ran_none b.ran_none;
-  cause = cause_then Failed old mid new first second a.cause b.cause;
+  unchanged = unchanged_then old mid new a.unchanged b.unchanged;
+  cause = cause_then Failed old mid new first second a.unchanged.ran_none.lasts.told a.cause b.cause;
 }

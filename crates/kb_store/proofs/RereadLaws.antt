@@ -13,4 +13,4 @@ use Rattle.kb_store.proofs.ReadLaws.{read_is_sound}
 -- after a store was read, nothing is damaged
 pub sound_after_read : (roots : Roots) (old new : State) (store : Store) → Gives (λ tree. read_of roots (public_tree roots tree)) old new (Ok store)
     → ForSome new.tree (λ tree. hurt roots (public_tree roots tree) ≡ None)
-sound_after_read roots old new store gives tree told = read_is_sound roots (public_tree roots tree) store (gives.answers tree (sym gives.tree ∙ told))
+sound_after_read roots old new store gives tree told = read_is_sound roots (public_tree roots tree) store (gives.answers tree (sym gives.unchanged.tree ∙ told))

@@ -161,7 +161,7 @@ runs host words old_world new_world old new report answer result s t =
       fault = λ is. let f = tells_fault report old new result answer t.ends is in record { rose = s.cause.rose f.0; out = f.1; err = f.2 };
       sink_fault = λ is. (tells_sink report old new result answer t.ends is).rose;
       complete = λ steady. (
-        tells_steady report old new result answer (λ failed. failed.unsteady steady.out steady.err) (λ is. s.cause.never steady.world is) t.ends,
+        λ told. tells_steady report old new result answer (λ failed. failed.unsteady steady.out steady.err) (λ is. s.cause.never told steady.world is) t.ends,
         record { world = s.cause.steady steady.world; out = t.go_on.out_steady steady.out; err = t.go_on.err_steady steady.err },
       );
       no_setting = tells_no_setting report old new result answer t.ends;
@@ -187,7 +187,7 @@ runs_wanting host words world out old_err new_err says = record {
   damaged = λ tree told stands. (refl, refl);
   fault = λ is. let impossible : end.NoMemory ≡ end.Fault = is in cc;
   sink_fault = λ is. let impossible : end.NoMemory ≡ end.SinkFault = is in cc;
-  complete = λ steady. (tt, record { world = steady.world; out = steady.out; err = says.steady steady.err });
+  complete = λ steady. (λ told. tt, record { world = steady.world; out = steady.out; err = says.steady steady.err });
   no_setting = (λ is. let impossible : end.NoMemory ≡ end.BadRoot = is in cc, λ is. let impossible : end.NoMemory ≡ end.BadBoot = is in cc);
   counts = record { world = omega arith; out = omega arith; err = says.later };
   lasts = record { roots = refl; script = refl; told = refl };

@@ -109,13 +109,13 @@ pub serves_damaged : (host : Host) (words : List Word) (old mid : State) (report
 serves_damaged host words old mid report (Refused why) d = record {
   answers = λ tree told rooted.
       let P : Outcome → Type 0 = λ outcome. CameAbout host.roots (public_tree host.roots tree) outcome (Some why) old mid report report in
-      subst P (sym (outcome_damaged host old.script words tree why (d.agrees tree told))) (stays_refused host.roots tree old mid why report (d.tree ∙ told) d.ran_none.ran);
-  damaged = λ tree told stands. (d.tree, d.ran_none.ran);
-  lasts = d.ran_none.lasts;
+      subst P (sym (outcome_damaged host old.script words tree why (d.agrees tree told))) (stays_refused host.roots tree old mid why report (d.unchanged.tree ∙ told) d.unchanged.ran_none.ran);
+  damaged = λ tree told stands. (d.unchanged.tree, d.unchanged.ran_none.ran);
+  lasts = d.unchanged.ran_none.lasts;
   cause = d.cause;
 }
-serves_damaged host words old mid report Fault d = record { answers = λ tree told rooted. tt; damaged = λ tree told stands. (d.tree, d.ran_none.ran); lasts = d.ran_none.lasts; cause = d.cause }
-serves_damaged host words old mid report NoMemory d = record { answers = λ tree told rooted. tt; damaged = λ tree told stands. (d.tree, d.ran_none.ran); lasts = d.ran_none.lasts; cause = d.cause }
+serves_damaged host words old mid report Fault d = record { answers = λ tree told rooted. tt; damaged = λ tree told stands. (d.unchanged.tree, d.unchanged.ran_none.ran); lasts = d.unchanged.ran_none.lasts; cause = d.cause }
+serves_damaged host words old mid report NoMemory d = record { answers = λ tree told rooted. tt; damaged = λ tree told stands. (d.unchanged.tree, d.unchanged.ran_none.ran); lasts = d.unchanged.ran_none.lasts; cause = d.cause }
 
 -- memory ran out before they were done
 pub serves_wanting : (host : Host) (words : List Word) (old mid : State) (report : Report) → Decides (standing_intent host.roots) {T = Unit {0}} old mid (Ok tt)
@@ -123,7 +123,7 @@ pub serves_wanting : (host : Host) (words : List Word) (old mid : State) (report
 serves_wanting host words old mid report d = record {
   answers = λ tree told rooted. tt;
   damaged = λ tree told stands. absurd (intent_absent host.roots tree (d.agrees tree told) stands);
-  lasts = d.ran_none.lasts;
+  lasts = d.unchanged.ran_none.lasts;
   cause = cause_other {T = Unit {0}} {U = Unit {0}} old mid (Ok tt) (Err NoMemory) d.cause (λ failed. let impossible : Err NoMemory ≡ Err Fault = failed in cc);
 }
 
@@ -135,9 +135,9 @@ serves_unread host words old mid report (Refused why) d read = record {
       let P : Outcome → Type 0 = λ outcome. CameAbout host.roots (public_tree host.roots tree) outcome (Some why) old mid report report in
       let is = outcome_undamaged host old.script words tree (d.agrees tree told)
       ∙ ap (λ r. perform_read (known_host host) old.script r (public_tree host.roots tree) (foreign_tree host.roots tree)) read in
-      subst P (sym is) (stays_refused host.roots tree old mid why report (d.tree ∙ told) d.ran_none.ran);
+      subst P (sym is) (stays_refused host.roots tree old mid why report (d.unchanged.tree ∙ told) d.unchanged.ran_none.ran);
   damaged = λ tree told stands. absurd (intent_absent host.roots tree (d.agrees tree told) stands);
-  lasts = d.ran_none.lasts;
+  lasts = d.unchanged.ran_none.lasts;
   cause = cause_other {T = Unit {0}} {U = Unit {0}} old mid (Ok tt) (Err (Refused why)) d.cause (λ failed. let impossible : Err (Refused why) ≡ Err Fault = failed in cc);
 }
 serves_unread host words old mid report Fault d read = absurd read
@@ -153,10 +153,10 @@ serves_done host words it old mid new before after result d read e = record {
       let foreign = foreign_tree host.roots tree in
       let P : Outcome → Type 0 = λ outcome. Answers host.roots store outcome result old new before after in
       let is = outcome_undamaged host old.script words tree (d.agrees tree told) ∙ ap (λ r. perform_read (known_host host) old.script r store foreign) read
-      ∙ ap (λ script. perform (known_host host) script it store foreign) (sym d.ran_none.lasts.script) in
-      subst P (sym is) (answers_since host.roots store (perform (known_host host) mid.script it store foreign) old mid new before after result d.ran_none.ran
-      (e.answers tree (d.tree ∙ told) (d.ran_none.lasts.roots ∙ rooted)));
+      ∙ ap (λ script. perform (known_host host) script it store foreign) (sym d.unchanged.ran_none.lasts.script) in
+      subst P (sym is) (answers_since host.roots store (perform (known_host host) mid.script it store foreign) old mid new before after result d.unchanged.ran_none.ran
+      (e.answers tree (d.unchanged.tree ∙ told) (d.unchanged.ran_none.lasts.roots ∙ rooted)));
   damaged = λ tree told stands. absurd (intent_absent host.roots tree (d.agrees tree told) stands);
-  lasts = lasts_then old mid new d.ran_none.lasts e.lasts;
-  cause = cause_then Fault old mid new (Ok tt) result d.cause e.cause;
+  lasts = lasts_then old mid new d.unchanged.ran_none.lasts e.lasts;
+  cause = cause_then Fault old mid new (Ok tt) result d.unchanged.ran_none.lasts.told d.cause e.cause;
 }

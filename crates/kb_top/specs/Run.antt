@@ -126,8 +126,8 @@ pub record Runs (host : Host) (words : List Word) (old new : Outside) (result : 
   pub fault : result ≡ end.Fault → IsFaulted old new
   -- and with a sink's fault only where a sink's count rose
   pub sink_fault : result ≡ end.SinkFault → Rose old.out.faults new.out.faults ⊎ Rose old.err.faults new.err.faults
-  -- a world and sinks that are steady give an answer or want of memory
-  pub complete : AreSteady old → IsAnswerOrWant result × AreSteady new
+  -- a world and sinks that are steady stay so, and where the world tells its tree give an answer or want of memory
+  pub complete : AreSteady old → (IsTrue (is_some old.world.tree) → IsAnswerOrWant result) × AreSteady new
   -- the setting is none of its concern
   pub no_setting : (result ≡ end.BadRoot → ⊥) × (result ≡ end.BadBoot → ⊥)
   pub counts : CountsStay old new

@@ -1,9 +1,9 @@
 -- How what calls do is put together.
 use Rattle.std.proofs.Common.{◌≡◌, ◌≤◌, ℕ, List, ◌++◌, Option, Some, None, refl, sym, ap, ◌∙◌, subst, arith}
 use Rattle.std.proofs.lemmas.List.{append-nil}
-use Rattle.std.specs.Prelude.{IsErrOf, Result, Ok, Err, option_map}
+use Rattle.std.specs.Prelude.{IsErrOf, Result, Ok, Err, is_some, option_map}
 use Rattle.kb_world.specs.Tree.{Tree}
-use Rattle.kb_world.specs.State.{State, HasCause, Rose, Lasts, RanNone}
+use Rattle.kb_world.specs.State.{State, HasCause, Rose, Lasts, RanNone, Unchanged}
 use Rattle.kb_world.specs.Public.{public_tree, foreign_tree}
 use Rattle.kb_world.specs.Outcome.{Outcome, Action, refuse_if, unless, transaction, go_on, ◌then◌}
 use Rattle.kb_world.specs.Does.{CameAbout, Does, Decides, Transforms, Answers}
@@ -18,12 +18,13 @@ pub rose_since : (a b c : ℕ) → a ≤ b → Rose b c → Rose a c
 rose_since a b c le rose = omega (arith, le, rose)
 
 -- one call after another
-pub cause_then : {E T U : Type 0} (error : E) (old mid new : State) (first : Result T E) (second : Result U E) → HasCause error old mid first → HasCause error mid new second → HasCause error old new second
-cause_then error old mid new first second a b = record {
+pub cause_then : {E T U : Type 0} (error : E) (old mid new : State) (first : Result T E) (second : Result U E) → is_some mid.tree ≡ is_some old.tree
+    → HasCause error old mid first → HasCause error mid new second → HasCause error old new second
+cause_then error old mid new first second same a b = record {
   later = omega (arith, a.later, b.later);
   rose = λ failed. rose_since old.faults mid.faults new.faults a.later (b.rose failed);
   steady = λ is. b.steady (a.steady is);
-  never = λ is failed. b.never (a.steady is) failed;
+  never = λ told is failed. b.never (same ∙ told) (a.steady is) failed;
 }
 
 pub lasts_then : (old mid new : State) → Lasts old mid → Lasts mid new → Lasts old new
@@ -31,6 +32,12 @@ lasts_then old mid new a b = record { roots = b.roots ∙ a.roots; script = b.sc
 
 pub ran_none_then : (old mid new : State) → RanNone old mid → RanNone mid new → RanNone old new
 ran_none_then old mid new a b = record { ran = b.ran ∙ a.ran; lasts = lasts_then old mid new a.lasts b.lasts }
+
+pub unchanged_none : (state : State) → Unchanged state state
+unchanged_none state = record { tree = refl; ran_none = record { ran = refl; lasts = record { roots = refl; script = refl; told = refl } } }
+
+pub unchanged_then : (old mid new : State) → Unchanged old mid → Unchanged mid new → Unchanged old new
+unchanged_then old mid new a b = record { tree = b.tree ∙ a.tree; ran_none = ran_none_then old mid new a.ran_none b.ran_none }
 
 -- ---- an action that may be refused first
 
@@ -60,12 +67,12 @@ pub does_refused : (roots : Roots) (read due : Tree → Option Refusal) (second 
     → ((tree : Tree) → read tree ≡ due (public_tree roots tree)) → Decides read {T = Unit {0}} old mid (Err stop)
     → Does roots (unless due then second) {T = Unit {0}} old mid report report (Err stop)
 does_refused roots read due second old mid report (Refused refusal) same d = record {
-  answers = λ tree told rooted. came_refused roots due second tree old mid refusal report (sym (same tree) ∙ d.agrees tree told) (d.tree ∙ told) d.ran_none.ran;
-  lasts = d.ran_none.lasts;
+  answers = λ tree told rooted. came_refused roots due second tree old mid refusal report (sym (same tree) ∙ d.agrees tree told) (d.unchanged.tree ∙ told) d.unchanged.ran_none.ran;
+  lasts = d.unchanged.ran_none.lasts;
   cause = d.cause;
 }
-does_refused roots read due second old mid report Fault same d = record { answers = λ tree told rooted. tt; lasts = d.ran_none.lasts; cause = d.cause }
-does_refused roots read due second old mid report NoMemory same d = record { answers = λ tree told rooted. tt; lasts = d.ran_none.lasts; cause = d.cause }
+does_refused roots read due second old mid report Fault same d = record { answers = λ tree told rooted. tt; lasts = d.unchanged.ran_none.lasts; cause = d.cause }
+does_refused roots read due second old mid report NoMemory same d = record { answers = λ tree told rooted. tt; lasts = d.unchanged.ran_none.lasts; cause = d.cause }
 
 -- what came about since a moment at which no child had run, came about since an earlier one
 pub answers_since : (roots : Roots) (store : Tree) (outcome : Outcome) (old mid new : State) (before after : Report) (result : Result (Unit {0}) Stop) → mid.ran ≡ old.ran
@@ -84,9 +91,9 @@ does_passed roots read due second old mid new before after result same d e = rec
       let P : Outcome → Type 0 = λ outcome. Answers roots (public_tree roots tree) outcome result old new before after in
       let second_outcome = second (public_tree roots tree) (foreign_tree roots tree) in
       subst P (sym (unless_passed due second (public_tree roots tree) (foreign_tree roots tree) (sym (same tree) ∙ d.agrees tree told)))
-      (answers_since roots (public_tree roots tree) second_outcome old mid new before after result d.ran_none.ran (e.answers tree (d.tree ∙ told) (d.ran_none.lasts.roots ∙ rooted)));
-  lasts = lasts_then old mid new d.ran_none.lasts e.lasts;
-  cause = cause_then Fault old mid new (Ok tt) result d.cause e.cause;
+      (answers_since roots (public_tree roots tree) second_outcome old mid new before after result d.unchanged.ran_none.ran (e.answers tree (d.unchanged.tree ∙ told) (d.unchanged.ran_none.lasts.roots ∙ rooted)));
+  lasts = lasts_then old mid new d.unchanged.ran_none.lasts e.lasts;
+  cause = cause_then Fault old mid new (Ok tt) result d.unchanged.ran_none.lasts.told d.cause e.cause;
 }
 
 -- ---- an action that is one transaction
@@ -121,7 +128,7 @@ cause_other old new first second a never = record {
   later = a.later;
   rose = λ failed. absurd (never failed);
   steady = a.steady;
-  never = λ is failed. never failed;
+  never = λ told is failed. never failed;
 }
 
 pub no_cause : {T : Type 0} (old : State) (value : T) → HasCause Fault old old (Ok value)
@@ -129,5 +136,5 @@ no_cause old value = record {
   later = omega arith;
   rose = λ failed. let impossible : Ok value ≡ Err Fault = failed in cc;
   steady = λ is. is;
-  never = λ is failed. let impossible : Ok value ≡ Err Fault = failed in cc;
+  never = λ told is failed. let impossible : Ok value ≡ Err Fault = failed in cc;
 }

@@ -82,7 +82,7 @@ does_then roots first second old mid new before between after result a b = recor
       let Q : Outcome → Type 0 = λ whole. Answers roots store whole result old new before after in
       subst Q (sym (goes_on store outcome second came.end)) (answers_then roots store outcome follows result old mid new before between after came goes);
   lasts = lasts_then old mid new a.lasts b.lasts;
-  cause = cause_then Fault old mid new (Ok tt) result a.cause b.cause;
+  cause = cause_then Fault old mid new (Ok tt) result a.lasts.told a.cause b.cause;
 }
 
 -- ---- what is read decides
@@ -116,12 +116,12 @@ does_unread {A = A} roots read right next old mid report (Refused refusal) same 
   answers = λ tree told rooted.
       let store = public_tree roots tree in
       let P : Result A Refusal → Type 0 = λ r. CameAbout roots store (by_answer next r store (foreign_tree roots tree)) (Some refusal) old mid report report in
-      subst P (sym (sym (same tree) ∙ g.answers tree told)) (stays_refused roots tree old mid refusal report (g.tree ∙ told) g.ran_none.ran);
-  lasts = g.ran_none.lasts;
-  cause = record { later = g.cause.later; rose = λ failed. absurd (not_a_fault refusal failed); steady = g.cause.steady; never = λ is failed. not_a_fault refusal failed };
+      subst P (sym (sym (same tree) ∙ g.answers tree told)) (stays_refused roots tree old mid refusal report (g.unchanged.tree ∙ told) g.unchanged.ran_none.ran);
+  lasts = g.unchanged.ran_none.lasts;
+  cause = record { later = g.cause.later; rose = λ failed. absurd (not_a_fault refusal failed); steady = g.cause.steady; never = λ told is failed. not_a_fault refusal failed };
 }
-does_unread roots read right next old mid report Fault same g = record { answers = λ tree told rooted. tt; lasts = g.ran_none.lasts; cause = record { later = g.cause.later; rose = λ failed. g.cause.rose refl; steady = g.cause.steady; never = λ is failed. g.cause.never is refl } }
-does_unread roots read right next old mid report NoMemory same g = record { answers = λ tree told rooted. tt; lasts = g.ran_none.lasts; cause = record { later = g.cause.later; rose = λ failed. absurd (no_memory_no_fault failed); steady = g.cause.steady; never = λ is failed. no_memory_no_fault failed } }
+does_unread roots read right next old mid report Fault same g = record { answers = λ tree told rooted. tt; lasts = g.unchanged.ran_none.lasts; cause = record { later = g.cause.later; rose = λ failed. g.cause.rose refl; steady = g.cause.steady; never = λ told is failed. g.cause.never told is refl } }
+does_unread roots read right next old mid report NoMemory same g = record { answers = λ tree told rooted. tt; lasts = g.unchanged.ran_none.lasts; cause = record { later = g.cause.later; rose = λ failed. absurd (no_memory_no_fault failed); steady = g.cause.steady; never = λ told is failed. no_memory_no_fault failed } }
 
 -- it read a value, and it goes on with that
 pub does_read : {A : Type 0} (roots : Roots) (read right : Tree → Result A Refusal) (next : A → Action) (value : A) (old mid new : State) (before after : Report) (result : Result (Unit {0}) Stop)
@@ -133,9 +133,9 @@ does_read {A = A} roots read right next value old mid new before after result sa
       let foreign = foreign_tree roots tree in
       let P : Result A Refusal → Type 0 = λ r. Answers roots store (by_answer next r store foreign) result old new before after in
       subst P (sym (sym (same tree) ∙ g.answers tree told))
-      (answers_since roots store (next value store foreign) old mid new before after result g.ran_none.ran (b.answers tree (g.tree ∙ told) (g.ran_none.lasts.roots ∙ rooted)));
-  lasts = lasts_then old mid new g.ran_none.lasts b.lasts;
-  cause = cause_then Fault old mid new (Ok value) result g.cause b.cause;
+      (answers_since roots store (next value store foreign) old mid new before after result g.unchanged.ran_none.ran (b.answers tree (g.unchanged.tree ∙ told) (g.unchanged.ran_none.lasts.roots ∙ rooted)));
+  lasts = lasts_then old mid new g.unchanged.ran_none.lasts b.lasts;
+  cause = cause_then Fault old mid new (Ok value) result g.unchanged.ran_none.lasts.told g.cause b.cause;
 }
 
 -- ---- a text for standard error
@@ -179,7 +179,7 @@ does_asks roots request next reply old mid new before after result none a b = re
       let P : Reply → Type 0 = λ r. Answers roots store (joined first (next r store foreign)) result old new before after in
       subst P said (answers_then roots store first (next reply store foreign) result old mid new before before after came (b.answers tree is.same (a.lasts.roots ∙ rooted)));
   lasts = lasts_then old mid new a.lasts b.lasts;
-  cause = cause_then Fault old mid new (Ok reply) result a.cause b.cause;
+  cause = cause_then Fault old mid new (Ok reply) result a.lasts.told a.cause b.cause;
 }
 
 -- ---- want of memory tells nothing
@@ -189,7 +189,7 @@ pub does_nothing_told : (roots : Roots) (action : Action) (old new : State) (bef
 does_nothing_told roots action old new before after lasts later steady = record {
   answers = λ tree told rooted. tt;
   lasts = lasts;
-  cause = record { later = later; rose = λ failed. absurd (no_memory_no_fault failed); steady = steady; never = λ is failed. no_memory_no_fault failed };
+  cause = record { later = later; rose = λ failed. absurd (no_memory_no_fault failed); steady = steady; never = λ told is failed. no_memory_no_fault failed };
 }
 
 no_edit : (tree : Tree) (edits : List (Option Edit)) → after_edits areas.Nothing tree edits ≡ tree
@@ -218,7 +218,7 @@ asks_of_run request old new reply none r = record {
     later = r.cause.later;
     rose = λ failed. let impossible : Ok reply ≡ Err Fault = failed in cc;
     steady = r.cause.steady;
-    never = λ is failed. let impossible : Ok reply ≡ Err Fault = failed in cc;
+    never = λ told is failed. let impossible : Ok reply ≡ Err Fault = failed in cc;
   };
 }
 
@@ -227,7 +227,7 @@ asks_of_stop request old new Failed r = record {
   asked = tt;
   unrefused = λ refusal is. let impossible : unanswered Fault ≡ unanswered (Refused refusal) = is in cc;
   lasts = r.lasts;
-  cause = record { later = r.cause.later; rose = λ failed. r.cause.rose refl; steady = r.cause.steady; never = λ is failed. r.cause.never is refl };
+  cause = record { later = r.cause.later; rose = λ failed. r.cause.rose refl; steady = r.cause.steady; never = λ told is failed. r.cause.never told is refl };
 }
   where
     unanswered : Stop → Result Reply Stop
@@ -240,7 +240,7 @@ asks_of_stop request old new world.NoMemory r = record {
     later = r.cause.later;
     rose = λ failed. let impossible : unanswered NoMemory ≡ unanswered Fault = failed in cc;
     steady = r.cause.steady;
-    never = λ is failed. let impossible : unanswered NoMemory ≡ unanswered Fault = failed in cc;
+    never = λ told is failed. let impossible : unanswered NoMemory ≡ unanswered Fault = failed in cc;
   };
 }
   where

@@ -3,7 +3,7 @@ use Rattle.std.specs.Prelude.{◌≡◌, [], ◌∷◌, ◌++◌, IfOk, Option, 
 use Rattle.std.specs.Option.{ForSome}
 use Rattle.kb_world.specs.Tree.{Tree}
 use Rattle.kb_world.specs.Public.{public_tree, foreign_tree}
-use Rattle.kb_world.specs.State.{State, HasCause, Lasts, RanNone}
+use Rattle.kb_world.specs.State.{State, HasCause, Lasts, RanNone, Unchanged}
 use Rattle.kb_world.specs.Outcome.{Outcome, Action, last_of}
 use Rattle.kb_world.specs.Script.{answer_in}
 use Rattle.kb_world.specs.declared.child.Reply.{Reply}
@@ -25,8 +25,7 @@ Agrees (Err NoMemory) due = Unit {0}
 -- The call changes nothing, and is refused exactly where this finds a cause in the tree.
 pub record Decides (due : Tree → Option Refusal) {T : Type 0} (old new : State) (result : Result T Stop) : Type 0 where
   pub agrees : ForSome old.tree (λ tree. Agrees result (due tree))
-  pub tree : new.tree ≡ old.tree
-  pub ran_none : RanNone old new
+  pub unchanged : Unchanged old new
   pub cause : HasCause Fault old new result
 
 -- The call answered the value or the refusal. A fault and want of memory tell nothing.
@@ -39,8 +38,7 @@ IsAnswer (Err NoMemory) right = Unit {0}
 -- The call changes nothing, and answers what this says of the tree.
 pub record Gives {T : Type 0} (right : Tree → Result T Refusal) (old new : State) (result : Result T Stop) : Type 0 where
   pub answers : ForSome old.tree (λ tree. IsAnswer result (right tree))
-  pub tree : new.tree ≡ old.tree
-  pub ran_none : RanNone old new
+  pub unchanged : Unchanged old new
   pub cause : HasCause Fault old new result
 
 -- a child was run, which changed nothing, and its reply is the script's

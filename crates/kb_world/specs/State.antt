@@ -29,12 +29,13 @@ pub record State : Type 0 where
 abbrev pub Rose : ℕ → ℕ → Type 0
 Rose before now = min (before + 1) (2 ^ 64 - 1) ≤ now
 
--- A call answers this error only by a fault, which a steady world has none of.
+-- A call answers this error only by a fault. A steady world that tells its tree has none: one that doesn't may be asked
+-- for what its tree doesn't allow.
 pub record HasCause {E T : Type 0} (error : E) (old new : State) (result : Result T E) : Type 0 where
   pub later : old.faults ≤ new.faults
   pub rose : IsErrOf result error → Rose old.faults new.faults
   pub steady : IsTrue old.steady → IsTrue new.steady
-  pub never : IsTrue old.steady → IsErrOf result error → ⊥
+  pub never : IsTrue (is_some old.tree) → IsTrue old.steady → IsErrOf result error → ⊥
 
 -- what no call changes: the roots, the script, and whether the tree is told
 pub record Lasts (old new : State) : Type 0 where
@@ -47,10 +48,14 @@ pub record RanNone (old new : State) : Type 0 where
   pub ran : new.ran ≡ old.ran
   pub lasts : Lasts old new
 
--- a call that only looks
-pub record Looks {T : Type 0} (old new : State) (result : Result T WorldError) : Type 0 where
+-- the tree, the requests, the roots and the script are as they were, and the tree is told as it was
+pub record Unchanged (old new : State) : Type 0 where
   pub tree : new.tree ≡ old.tree
   pub ran_none : RanNone old new
+
+-- a call that only looks
+pub record Looks {T : Type 0} (old new : State) (result : Result T WorldError) : Type 0 where
+  pub unchanged : Unchanged old new
   pub cause : HasCause Failed old new result
 
 -- A call that changes the tree so: at Ok it is done, at a failure it is done or not, and where memory ran out it isn't.

@@ -25,13 +25,13 @@ returns-in-Err-load_conf g c =
 pub add_with-requires-clause-free : goal.add_with-requires-clause-free
 add_with-requires-clause-free g c now told =
     let roots = c.args.job.now.host.roots in
-    let was = sym c.in-Ok.ensures.tree ∙ sym c.in-Ok-load_conf.ensures.tree ∙ told in
+    let was = sym c.in-Ok.ensures.unchanged.tree ∙ sym c.in-Ok-load_conf.ensures.unchanged.tree ∙ told in
     let none = sym (ap (λ (p : Places). standing c.args.key.now p.link now) c.in_ok-places.ensures) ∙ c.in-Ok.ensures.agrees now was in
     subst (λ (p : Places). IsFree p now) (sym c.in_ok-places.ensures) (is_free roots c.args.key.now now (c.requires.root now was) none)
 
 pub add_with-requires-clause-there : goal.add_with-requires-clause-there
 add_with-requires-clause-there g c now told =
-    loaded_dir c.in_ok-places.places.source (Some c.args.key.now) c.in_ok-given.given now c.in-Ok-load_conf.conf (c.in-Ok-load_conf.ensures.answers now (sym c.in-Ok-load_conf.ensures.tree ∙ told))
+    loaded_dir c.in_ok-places.places.source (Some c.args.key.now) c.in_ok-given.given now c.in-Ok-load_conf.conf (c.in-Ok-load_conf.ensures.answers now (sym c.in-Ok-load_conf.ensures.unchanged.tree ∙ told))
 
 pub returns : goal.returns
 returns g c =

@@ -15,5 +15,5 @@ pub returns-in_ok-met-in-Some-clause-noted : goal.returns-in_ok-met-in-Some-clau
 returns-in_ok-met-in-Some-clause-noted g c = on_ok c.note_all.result c.note_all.ensures.noted (λ noted tree told.
     let roots = c.args.roots.now in
     let paths = ap (λ (m : List Met). paths_met m) (c.as_slice.ensures ∙ c.in_ok-met-in-Some.ensures.met tree told) ∙ paths_of_met tree _ in
-    noted tree (c.in_ok-met-in-Some.ensures.same.tree ∙ told)
+    noted tree (c.in_ok-met-in-Some.ensures.same.unchanged.tree ∙ told)
     ∙ ap (noted_all roots tree c.args.notes.now) (paths ∙ ap (λ (d : Option Path). entries_if roots tree d) (sym (sym c.in_ok-directory.ensures ∙ c.in-Some.is))))

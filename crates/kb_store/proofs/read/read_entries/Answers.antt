@@ -13,7 +13,7 @@ use Rattle.kb_store.proofs.read.read_entries.Goals.{in-Some+in_ok-note_version-i
 
 pub note_version-requires : goal.note_version-requires
 note_version-requires g c tree told =
-    over_stands c.args.roots.now tree c.in_ok-walk.walk c.in-Some.over (c.in_ok-walk.ensures.met tree (sym (c.in_ok-note_all.ensures.same.tree ∙ c.in_ok-walk.ensures.same.tree) ∙ told)) c.in-Some.is
+    over_stands c.args.roots.now tree c.in_ok-walk.walk c.in-Some.over (c.in_ok-walk.ensures.met tree (sym (c.in_ok-note_all.ensures.same.unchanged.tree ∙ c.in_ok-walk.ensures.same.unchanged.tree) ∙ told)) c.in-Some.is
 
 pub returns-clause-read : goal.returns-clause-read
 returns-clause-read g c tree told = record {
@@ -21,13 +21,13 @@ returns-clause-read g c tree told = record {
   notes =
       let roots = c.args.roots.now in
       let met = c.in_ok-walk.walk.met in
-      let mid = c.in_ok-walk.ensures.same.tree ∙ told in
+      let mid = c.in_ok-walk.ensures.same.unchanged.tree ∙ told in
       let noted : c.note_all.new.notes ≡ noted_all roots tree no_notes (paths_met met) =
       c.in_ok-note_all.ensures.noted tree mid ∙ ap (λ (m : List Met). noted_all roots tree c.new-notes.result (paths_met m)) c.as_slice.ensures
       ∙ ap (λ (n : Notes). noted_all roots tree n (paths_met met)) c.new-notes.ensures in
       elim c.match-walk-2.branch [
         | in-Some+in_ok-note_version-in-Some w ↦
-            w.notes-is ∙ w.in_ok-note_version-in-Some.ensures.noted tree (c.in_ok-note_all.ensures.same.tree ∙ mid)
+            w.notes-is ∙ w.in_ok-note_version-in-Some.ensures.noted tree (c.in_ok-note_all.ensures.same.unchanged.tree ∙ mid)
             ∙ ap (λ (n : Notes). noted_all roots tree n (entries_over roots tree (Some w.in-Some.over))) noted ∙ noted_more roots tree (paths_met met) (entries_over roots tree (Some w.in-Some.over))
             ∙ ap (λ (o : Option Path). notes_of roots tree (paths_met met ++ entries_over roots tree o)) (sym w.in-Some.is)
         | in-None w ↦

@@ -7,7 +7,7 @@ use Rattle.kb_store.proofs.walking.+walk.Goals as goal
 
 pub visit-returns-clause-met : goal.visit-returns-clause-met
 visit-returns-clause-met g t c tree told =
-    let there = c.in_ok-names.ensures.same.tree ∙ told in
+    let there = c.in_ok-names.ensures.same.unchanged.tree ∙ told in
     visited_all tree (g.S.Skips.skips c.args.skips.now) (g.met.S.Skips.deeper c.args.skips.now) c.args.directory.now (g.met.W.World.formed c.args.world.now tree told) c.args.most (length c.args.directory.now + c.args.depth) c.args.walk.now
     c.loop-name.walk c.deref-name-items.result.now c.loop-name.name-index (c.deref-name-items.ensures.value ∙ c.in_ok-names.ensures.names tree told) c.loop-name-test.false (c.loop-name.invariant.met tree there)
 

@@ -21,16 +21,16 @@ returns-in_err-_store g c =
     c.args.report.now c.in_err-_store.field-0.0 (λ tree. refl) c.in_err-_store.ensures)
 
 pub add-requires-clause-root : goal.add-requires-clause-root
-add-requires-clause-root g c now told = c.requires.root now (sym c.in_ok-_store.ensures.tree ∙ told)
+add-requires-clause-root g c now told = c.requires.root now (sym c.in_ok-_store.ensures.unchanged.tree ∙ told)
 
 pub add-requires-clause-sound : goal.add-requires-clause-sound
 add-requires-clause-sound g c now told =
     let roots = c.args.job.now.host.roots in
-    read_is_sound roots (public_tree roots now) c.in_ok-_store._store (c.in_ok-_store.ensures.answers now (sym c.in_ok-_store.ensures.tree ∙ told))
+    read_is_sound roots (public_tree roots now) c.in_ok-_store._store (c.in_ok-_store.ensures.answers now (sym c.in_ok-_store.ensures.unchanged.tree ∙ told))
 
 pub returns : goal.returns
 returns g c =
     let roots = c.args.job.now.host.roots in
     let P : Script → Type 0 = λ script. Does roots (add c.args.job.now.host script c.args.key.now) (g.W.World.state c.read.new.world) (g.W.World.state c.add.new.world) c.args.report.now c.add.new.report c.add.result in
     does_read roots (λ tree. read_of roots (public_tree roots tree)) (read_of roots) (λ (read : Store). add c.args.job.now.host (g.W.World.state c.args.world.now).script c.args.key.now) c.in_ok-_store._store _ _ _
-    c.args.report.now _ c.add.result (λ tree. refl) c.in_ok-_store.ensures (subst P c.in_ok-_store.ensures.ran_none.lasts.script c.add.ensures)
+    c.args.report.now _ c.add.result (λ tree. refl) c.in_ok-_store.ensures (subst P c.in_ok-_store.ensures.unchanged.ran_none.lasts.script c.add.ensures)

@@ -21,7 +21,7 @@ add_to_store-requires-clause-named g c = sym (ap keeps_rules c.in-Add.is) ∙ c.
 
 pub add_to_store-requires-clause-root : goal.add_to_store-requires-clause-root
 add_to_store-requires-clause-root g c now told =
-    dkms_there c.args.job.now.host.roots now (c.in_ok-require_roots_of_add-in-Add.ensures.agrees now (sym c.in_ok-require_roots_of_add-in-Add.ensures.tree ∙ told))
+    dkms_there c.args.job.now.host.roots now (c.in_ok-require_roots_of_add-in-Add.ensures.agrees now (sym c.in_ok-require_roots_of_add-in-Add.ensures.unchanged.tree ∙ told))
 
 pub returns-in_ok-push-in-Help : goal.returns-in_ok-push-in-Help
 returns-in_ok-push-in-Help g c =
@@ -34,4 +34,4 @@ returns-in_ok-require_roots_of_add-in-Add g c =
     let host = c.args.job.now.host in
     let P : Script → Type 0 = λ script. Does roots (add_to_store host script c.in-Add.key) (g.W.World.state c.require_roots_of_add.new.world) (g.W.World.state c.add_to_store.new.world) c.args.report.now c.add_to_store.new.report c.add_to_store.result in
     rw c.in-Add.is (does_passed roots (no_roots_of_add roots) (no_roots_of_add roots) (add_to_store host (g.W.World.state c.args.world.now).script c.in-Add.key) _ _ _ c.args.report.now _ c.add_to_store.result
-    (roots_shown roots c.requires.apart) c.in_ok-require_roots_of_add-in-Add.ensures (subst P c.in_ok-require_roots_of_add-in-Add.ensures.ran_none.lasts.script c.add_to_store.ensures))
+    (roots_shown roots c.requires.apart) c.in_ok-require_roots_of_add-in-Add.ensures (subst P c.in_ok-require_roots_of_add-in-Add.ensures.unchanged.ran_none.lasts.script c.add_to_store.ensures))

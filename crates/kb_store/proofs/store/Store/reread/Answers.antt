@@ -19,7 +19,7 @@ returns-clause-store g c =
     (λ tree told.
     let met_is = c.as_slice-2.ensures in
     let notes : c.note_all.new.notes ≡ notes_of roots tree (paths_met c.in_ok-met.met) =
-    c.in_ok-note_all.ensures.noted tree (c.in_ok-met.ensures.same.tree ∙ told) ∙ ap (λ (m : List Met). noted_all roots tree c.new-notes.result (paths_met m)) c.as_slice.ensures
+    c.in_ok-note_all.ensures.noted tree (c.in_ok-met.ensures.same.unchanged.tree ∙ told) ∙ ap (λ (m : List Met). noted_all roots tree c.new-notes.result (paths_met m)) c.as_slice.ensures
     ∙ ap (λ (n : Notes). noted_all roots tree n (paths_met c.in_ok-met.met)) c.new-notes.ensures ∙ noted_all_is roots tree (paths_met c.in_ok-met.met) in
     let here = notes ∙ ap (λ (m : List Met). notes_of roots tree (paths_met m)) (sym met_is) in
     ap Ok (store_public roots c.requires.apart tree ∙ sym (c.in_ok-store_from.ensures c.requires.apart tree (sym (hurt_public roots c.requires.apart tree) ∙ c.requires.sound tree told) (record {
