@@ -4,12 +4,11 @@ pub mod ContentsLaws
 pub mod EntryLaws
 pub mod FarLaws
 pub mod LimitLaws
-pub mod LinkLaws
 pub mod LookLaws
 pub mod MemberLaws
-pub mod NoteLaws
-pub mod NotedLaws
-pub mod NotingLaws
+pub mod NotesOfLists
+pub mod NotesOfPlaces
+pub mod NotingLoops
 pub mod OrderLaws
 pub mod PartLaws
 pub mod PlaceLaws
@@ -18,6 +17,7 @@ pub mod ReadLaws
 pub mod ReadingLaws
 pub mod RereadLaws
 pub mod TargetsLaws
-pub mod TellLaws
+pub mod ToldByEntries
+pub mod ToldIsThere
 pub mod VisitLaws
 pub mod WalkLaws

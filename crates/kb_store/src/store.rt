@@ -5,8 +5,8 @@ ghost use Rattle.std.specs.Ordering.{is_lt};
 ghost use Rattle.kb_store.specs.Accessors as part;
 ghost use Rattle.kb_store.specs.Claims.{lesser};
 
-use crate::place::{Places, RelPath, last_name};
-use kb_world::{Key, Sequence, Spot, Text};
+use crate::place::{Places, last_name};
+use kb_world::{Key, RelPath, Sequence, Spot, Text};
 
 /// A build of an added version: its modules' places below the kernel's directory, in the order of its conf.
 #[derive(Debug, Drop)]

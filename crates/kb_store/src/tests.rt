@@ -7,7 +7,6 @@ mod store;
 mod trees;
 mod walks;
 
-use crate::links::spot_of_link;
 use crate::*;
 use std::alloc::{AllocError, Global};
 use std::process::Abort;
@@ -68,30 +67,6 @@ fn other_texts_are_no_targets(rt: HostRuntime) -> Result<(), Fail> {
         "kmodboot targets 1\nupdates/a.ko\n\n",
     ] {
         expect_bad(&rt, alloc, text)?;
-    }
-    Ok(())
-}
-
-// The kernel and the architecture with a blank between, or a dash where there is no spot.
-fn told_spot(alloc: Global, name: &str) -> Result<String, AllocError> {
-    match spot_of_link(alloc, name)? {
-        Some(spot) => format!(in alloc; "{} {}", spot.kernel, spot.arch),
-        None => String::from_str(alloc, "-"),
-    }
-}
-
-#[test]
-fn links_are_cut_at_the_last_dash(rt: HostRuntime) -> Result<(), Fail> {
-    let alloc = rt.alloc();
-    for (name, want) in [
-        ("kernel-6.1.0-x86_64", "6.1.0 x86_64"),
-        ("kernel-6.1.0-18-amd64-x86_64", "6.1.0-18-amd64 x86_64"),
-        ("kernel-6.1.0", "-"),
-        ("kernel-build-x86_64", "-"),
-        ("kernel-6.1.0-x86.64", "-"),
-        ("6.1.0-x86_64", "-"),
-    ] {
-        assert_eq!(rt; told_spot(alloc, name)?.as_str(), want);
     }
     Ok(())
 }

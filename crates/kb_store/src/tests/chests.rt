@@ -2,7 +2,7 @@
 use crate::chests::chests_of;
 use crate::store::Chest;
 use crate::*;
-use kb_world::{Kind, Path, Roots};
+use kb_world::{Kind, Path, RelPath, Roots};
 use std::alloc::{AllocError, Global};
 use std::process::Abort;
 use std::test::Fail;

@@ -2,7 +2,7 @@
 use crate::tests::trees::{empty_world, make_root, put_lines, usual_roots};
 use crate::*;
 use kb_memory::MemoryWorld;
-use kb_world::{Key, Node, Refusal, Spot, Stop, Text};
+use kb_world::{Key, Node, Refusal, RelPath, Spot, Stop, Text};
 use std::alloc::{AllocError, Global};
 use std::process::Abort;
 use std::test::Fail;
