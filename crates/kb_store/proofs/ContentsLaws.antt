@@ -35,7 +35,7 @@ use Rattle.kb_store.proofs.EntryLaws.{picked, cond_none, any_found, found_path, 
 own_text : (a : List ℕ) → bytes_eq a a ≡ true
 own_text a = (bytes_decides a a).1 refl
 
-key_is : (a b : Key) → same_key a b ≡ true → a ≡ b
+pub key_is : (a b : Key) → same_key a b ≡ true → a ≡ b
 key_is a b h =
     let modules = (bytes_decides a.module b.module).0 (first_so (bytes_eq a.module b.module) (bytes_eq a.version b.version) h) in
     let versions = (bytes_decides a.version b.version).0 (second_so (bytes_eq a.module b.module) (bytes_eq a.version b.version) h) in
@@ -44,7 +44,7 @@ key_is a b h =
 own_key : (key : Key) → same_key key key ≡ true
 own_key key = both_true (own_text key.module) (own_text key.version)
 
-spot_is : (a b : Spot) → same_spot a b ≡ true → a ≡ b
+pub spot_is : (a b : Spot) → same_spot a b ≡ true → a ≡ b
 spot_is a b h =
     let kernels = (bytes_decides a.kernel b.kernel).0 (first_so (bytes_eq a.kernel b.kernel) (bytes_eq a.arch b.arch) h) in
     let archs = (bytes_decides a.arch b.arch).0 (second_so (bytes_eq a.kernel b.kernel) (bytes_eq a.arch b.arch) h) in

@@ -3,6 +3,7 @@ pub mod ClaimLaws
 pub mod ContentsLaws
 pub mod EntryLaws
 pub mod FarLaws
+pub mod InstalledClaims
 pub mod LimitLaws
 pub mod LookLaws
 pub mod MemberLaws
