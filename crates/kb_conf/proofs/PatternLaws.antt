@@ -4,7 +4,7 @@ use Rattle.std.specs.Prelude.{IfSome, option_and_then, chars}
 use Rattle.std.specs.Option.{option_map_or}
 use Rattle.std.proofs.lemmas.Bool.Decides.{nat_tests}
 use Rattle.regex.specs.Patterns.{Re, SameCaptures, find_str, default_config, Reads, Refuses}
-use Rattle.regex.specs.Names.{assigned_names}
+use Rattle.regex.specs.Names.{names_of}
 use Rattle.regex.specs.Strings.{regex_pattern, regex_source, regex_config, IsReadFromSource}
 use Rattle.regex.specs.declared.string.regex.Regex.{Regex}
 use Rattle.regex_syntax.specs.Brackets.{Nested}
@@ -35,7 +35,7 @@ pub built_reads : (text : List ℕ) (r : Regex) → regex_source r ≡ text → 
     (re : Re) × (pattern_in text ≡ Some re) × SameCaptures (regex_pattern r) re
 unfolding Reads pattern_in
 built_reads text r source config is_read =
-    read_within (read default_config (chars text)) default_config.nest_limit (regex_pattern r) (assigned_names r.pattern.names.items) (rw (source, config) at is_read)
+    read_within (read default_config (chars text)) default_config.nest_limit (regex_pattern r) (names_of r.pattern.names.items) (rw (source, config) at is_read)
 
 refused_within : (o : Option (Nested Re × Names)) (most : ℕ) (kind : ErrorKind) → kind ≢ OutOfMemory →
     (kind ≡ OutOfMemory) ⊎ ((o ≡ None) ⊎ ((kind ≡ NestLimitExceeded) × IfSome o (λ (re, _). most < re.depth))) →
