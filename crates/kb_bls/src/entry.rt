@@ -4,8 +4,8 @@ ghost use Rattle.std.specs.Prelude.{◌∷◌, ◌++◌, [], List, OnOk};
 use kb_world::{Text, Texts};
 use std::alloc::{AllocError, Global};
 
-/// A Type #1 entry: the value of each key of this profile that the entry gives one to. The paths of `linux`, `efi`,
-/// `initrd` and `devicetree` begin at the root of the boot partition.
+/// A Type #1 entry: the value of each key of this profile that the entry gives one to. The paths of
+/// `linux`, `efi`, `initrd` and `devicetree` begin at the root of the boot partition.
 #[derive(Debug, Drop)]
 pub struct Entry {
     pub title: Option<Text>,

@@ -1,5 +1,5 @@
-//! Boot entries: Type #1 entries of the Boot Loader Specification, the names of their files, which count tries, and the
-//! order in which a boot menu shows them.
+//! Boot entries: Type #1 entries of the Boot Loader Specification, the names of their files, which
+//! count tries, and the order in which a boot menu shows them.
 #![tactic(auto)]
 
 mod entry;

@@ -5,7 +5,8 @@ ghost use Rattle.kb_bls.specs.Fields.{IsTrimmed, Says, SaysNothing};
 // What separates a key from its value.
 const BLANKS: [char; 2] = [' ', '\t'];
 
-/// The line without what doesn't count at its ends: one carriage return at the end, and then blanks.
+/// The line without what doesn't count at its ends: one carriage return at the end, and then
+/// blanks.
 pub fn trimmed(line: &str) -> &str
     ensures { IsTrimmed line.now result.now }
 {
@@ -15,8 +16,8 @@ pub fn trimmed(line: &str) -> &str
         .trim_end_matches(BLANKS)
 }
 
-/// The key and the value that a line says it has, if it says one. The first word of a comment is taken for a key, which
-/// no profile has.
+/// The key and the value that a line says it has, if it says one. The first word of a comment is
+/// taken for a key, which no profile has.
 pub fn field_of(line: &str) -> Option<(&str, &str)>
     ensures { MatchOption result (SaysNothing line.now) (λ field. Says line.now (record { key = field.0.now; value = field.1.now })) }
 {

@@ -27,8 +27,8 @@ pub enum Counter {
 impl Counter {
     ghost use Rattle.kb_bls.specs.Names.{IsTriedOnce, CanBeTried};
 
-    /// The counter after one try more. There is none where tries aren't counted, none is left, or as many were made as
-    /// a name can hold.
+    /// The counter after one try more. There is none where tries aren't counted, none is left, or
+    /// as many were made as a name can hold.
     pub fn tried(&self) -> Option<Counter>
         ensures there { IsSome result ↔ CanBeTried self.now }
         ensures once { IfSome result (IsTriedOnce self.now) }
@@ -43,7 +43,8 @@ impl Counter {
     }
 }
 
-/// The name of an entry's file: the base, `+LEFT` or `+LEFT-DONE` where tries are counted, and `.conf`.
+/// The name of an entry's file: the base, `+LEFT` or `+LEFT-DONE` where tries are counted, and
+/// `.conf`.
 pub fn entry_name(alloc: Global, base: &str, counter: &Counter) -> Result<Text, AllocError>
     requires base { IsEntryBase base.now counter.now }
     requires countable { IsCountable counter.now }
@@ -133,9 +134,9 @@ fn read_stem(stem: &str) -> Option<(&str, Counter)>
     }
 }
 
-/// The base and the counter of an entry's file, where the name is one: it ends in `.conf`, has no characters but ASCII
-/// letters, digits and `+ - _ .`, and its base isn't empty. What ends in a `+` and numbers of one to nine digits has
-/// that counter, and is its base without it.
+/// The base and the counter of an entry's file, where the name is one: it ends in `.conf`, has no
+/// characters but ASCII letters, digits and `+ - _ .`, and its base isn't empty. What ends in a `+`
+/// and numbers of one to nine digits has that counter, and is its base without it.
 pub fn read_entry_name(name: &str) -> Option<(&str, Counter)>
     ensures reading { MatchOption result (spec.name_reading name.now ≡ None) (λ read. spec.name_reading name.now ≡ Some (read.0.now, read.1)) }
     ensures name { MatchOption result ((base : List ℕ) (counter : Counter) → ¬ IsEntryName name.now base counter) (λ read. IsEntryName name.now read.0.now read.1) }

@@ -19,7 +19,8 @@ pub struct Named {
     pub entry: Entry,
 }
 
-// The base of a file's name, and whether no try is left to it. A name that isn't an entry's is its own base.
+// The base of a file's name, and whether no try is left to it. A name that isn't an entry's is its
+// own base.
 fn base_of(name: &str) -> (&str, bool)
     ensures base { result.0.now ≡ (spec.read_as name.now).0 }
     ensures bad { result.1 ≡ is_out_of_tries (spec.read_as name.now).1 }
@@ -69,7 +70,8 @@ fn entry_cmp(a: &Named, b: &Named) -> Ordering
         .then_with(|| a.name.cmp(&b.name))
 }
 
-/// The entries in the order of a boot menu.
+/// The entries in the order of a boot menu: those without a try left last, those with a sort key
+/// before those without, the newest first. Entries that no rule tells apart keep their order.
 pub fn sort_entries(alloc: Global, mut list: Vec<Named>) -> Result<Vec<Named>, AllocError>
     ensures each_once { IfOk result (λ sorted. IsPermutation list.items sorted.items) }
     ensures sorted { IfOk result (λ sorted. IsSorted spec.entry_order sorted.items) }

@@ -13,7 +13,8 @@ use thiserror::Error;
 /// Why bytes aren't read as an entry.
 #[derive(Clone, Copy, Debug, PartialEq, Eq, Error)]
 pub enum EntryError {
-    /// The bytes aren't UTF-8. It has the place, counted from 0, at which the first sequence begins that isn't.
+    /// The bytes aren't UTF-8. It has the place, counted from 0, at which the first sequence begins
+    /// that isn't.
     #[error("not text at byte {at}")]
     NotText { at: u64 },
     #[error("out of memory")]
@@ -30,8 +31,8 @@ impl From<AllocError> for EntryError {
     }
 }
 
-/// The entry that a text is, line by line. What isn't a line of a known key with a value is passed over, so every text
-/// is an entry. Of a key that doesn't repeat the last value counts.
+/// The entry that a text is, line by line. What isn't a line of a known key with a value is passed
+/// over, so every text is an entry. Of a key that doesn't repeat the last value counts.
 fn parse_text(alloc: Global, text: &str) -> Result<Entry, AllocError>
     ensures { IfOk result (IsEntryOf text.now) }
 {

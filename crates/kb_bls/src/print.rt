@@ -79,7 +79,8 @@ fn can_all_stand(fields: &[(&str, &[Text])]) -> bool
     fields.iter().all(|(_, values)| are_values(values))
 }
 
-/// Whether the entry can be printed: no value is empty, has a line feed or a carriage return, or has a blank at an end.
+/// Whether the entry can be printed: no value is empty, has a line feed or a carriage return, or
+/// has a blank at an end.
 pub fn can_be_printed(entry: &Entry) -> bool
     ensures { result ≡ can_be_printed entry.now }
 {

@@ -133,11 +133,11 @@ is_used name = names_package name || names_exclusion name || names_target name |
 abbrev pub is_unused : List ℕ → Bool
 is_unused name = not (is_used name)
 
-abbrev pub names_of : Values → List (List ℕ)
-names_of values = map (λ (a : Assignment). a.name) values
+abbrev pub assigned_names : Values → List (List ℕ)
+assigned_names values = map (λ (a : Assignment). a.name) values
 
 abbrev pub unused_of : Values → List (List ℕ)
-unused_of values = each_once (filter is_unused (names_of values))
+unused_of values = each_once (filter is_unused (assigned_names values))
 
 abbrev pub package_key : Values → Key
 package_key values = record {

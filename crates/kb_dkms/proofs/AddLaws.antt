@@ -15,12 +15,15 @@ use Rattle.kb_world.specs.declared.roots.Roots.{Roots}
 use Rattle.kb_world.specs.declared.job.Key.{Key}
 use Rattle.kb_world.specs.declared.refusal.Refusal.{Refusal}
 use Rattle.kb_world.specs.declared.refusal.Refusal.TheVariants as refusal
+use Rattle.kb_world.specs.declared.store_path.StorePath.TheVariants.{SourceLink}
 use Rattle.kb_world.specs.declared.tree.Node.{Node}
 use Rattle.kb_world.specs.declared.tree.Node.TheVariants as node
 use Rattle.kb_world.proofs.AddLaws.{elsewhere as stays}
-use Rattle.kb_world.proofs.DamageLaws.{sound_from, link_names}
+use Rattle.kb_world.proofs.DamageLaws.{sound_from}
 use Rattle.kb_world.proofs.NameLaws.{known, begins-append}
 use Rattle.kb_world.proofs.PathLaws.{elsewhere, under-append, apart-back}
+use Rattle.kb_world.proofs.PublicPlaces.{public_place}
+use Rattle.kb_world.proofs.StorePathLaws.{link_no_scratch}
 use Rattle.kb_world.proofs.PublicLaws.{IsAlwaysPublic, written_apart, in_dkms, in_src, shown, public_tree-with_node, foreign_tree-with_node}
 use Rattle.kb_world.proofs.StepLaws.{blocking-same}
 use Rattle.kb_conf.specs.Load.{conf_below, loaded_conf}
@@ -47,9 +50,8 @@ are_public roots apart key good =
     let begins : begins_alphanumeric (key.module ++ codes "-" ++ key.version) ≡ true = begins_on (codes "-") key.version plain in
     record {
       package_directory = in_dkms roots apart (key.module ∷ []) plain refl;
-      version = at_path roots _ _ (append_assoc roots.dkms (key.module ∷ []) (key.version ∷ [])) (in_dkms roots apart (key.module ∷ key.version ∷ []) plain refl);
-      link = at_path roots _ _ (append_assoc (roots.dkms ++ key.module ∷ []) (key.version ∷ []) (codes "source" ∷ []) ∙ append_assoc roots.dkms (key.module ∷ []) (key.version ∷ codes "source" ∷ []))
-          (in_dkms roots apart (key.module ∷ key.version ∷ codes "source" ∷ []) plain (no_scratch (is_word key.module && is_version key.version)));
+      version = in_dkms roots apart (key.module ∷ key.version ∷ []) plain (link_no_scratch key.module key.version);
+      link = public_place roots apart (SourceLink key) good refl;
       source = in_src roots apart ((key.module ++ codes "-" ++ key.version) ∷ []) begins;
       conf = at_path roots _ _ (append_assoc roots.src ((key.module ++ codes "-" ++ key.version) ∷ []) (codes "dkms.conf" ∷ []))
           (in_src roots apart ((key.module ++ codes "-" ++ key.version) ∷ codes "dkms.conf" ∷ []) begins);
@@ -57,10 +59,6 @@ are_public roots apart key good =
   where
     begins_on : (dash version : List ℕ) → begins_alphanumeric key.module ≡ true → begins_alphanumeric (key.module ++ dash ++ version) ≡ true
     begins_on dash version plain = begins-append (key.module ++ dash) version (begins-append key.module dash plain)
-
-    no_scratch : (b : Bool) → (b && false) ≡ false
-    no_scratch true = refl
-    no_scratch false = refl
 
 -- ---- what is read
 
@@ -151,8 +149,8 @@ pub source_stays : (roots : Roots) → AreApart roots → (key : Key) → (tree 
 unfolding add_step
 source_stays roots apart key tree =
     stays roots key tree (source_path roots key) (outside _ (under-append roots.dkms (key.module ∷ [])))
-    (outside _ (ap (λ p. is_under p roots.dkms) (append_assoc roots.dkms (key.module ∷ []) (key.version ∷ [])) ∙ under-append roots.dkms (key.module ∷ key.version ∷ [])))
-    (outside _ (ap (λ p. is_under p roots.dkms) (link_names roots key) ∙ under-append roots.dkms (key.module ∷ key.version ∷ codes "source" ∷ [])))
+    (outside _ (under-append roots.dkms (key.module ∷ key.version ∷ [])))
+    (outside _ (under-append roots.dkms (key.module ∷ key.version ∷ codes "source" ∷ [])))
   where
     outside : (path : Path) → is_under path roots.dkms ≡ true → source_path roots key ≢ path
     outside path under same =

@@ -53,7 +53,12 @@ kernel_named host good kernel is =
 
 -- the parts of a package stand in one another
 pub nested : (roots : Roots) (key : Key) → IsNested (package_places roots key)
-nested roots key = record { version = key.version; link = _; version_is = refl; link_is = refl }
+nested roots key = record {
+  version = key.version;
+  link = codes "source";
+  version_is = sym (append_assoc roots.dkms (key.module ∷ []) (key.version ∷ []));
+  link_is = sym (append_assoc roots.dkms (key.module ∷ key.version ∷ []) (codes "source" ∷ []));
+}
 
 nothing_stands : (key : Key) (link : Path) (tree : Tree) → standing key link tree ≡ None → node_at tree link ≡ None
 nothing_stands key link tree e = by_case (node_at tree link) refl

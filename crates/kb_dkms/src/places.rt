@@ -26,15 +26,12 @@ pub(crate) fn find_places(alloc: Global, roots: &Roots, key: &Key) -> Result<Pla
     requires { IsTrue (is_key key.now) }
     ensures { IfOk result (λ places. places ≡ package_places roots.now key.now) }
 {
-    let name = format!(in alloc; "{}-{}", key.module, key.version)?;
-    let source = roots.src.child(alloc, &name)?;
-    let module = roots.dkms.child(alloc, key.module.as_str())?;
-    let version = module.child(alloc, key.version.as_str())?;
+    let source = roots.source_dir(alloc, key)?;
     Ok(Places {
-        link: version.child(alloc, "source")?,
+        module: roots.module_dir(alloc, &key.module)?,
+        version: roots.version_dir(alloc, key)?,
+        link: roots.source_link(alloc, key)?,
         text: source.text(alloc)?,
-        module,
-        version,
         source,
     })
 }

@@ -1,6 +1,7 @@
 -- The chests that stand in a tree are those that what was met tells of.
-use Rattle.std.proofs.Common.{◌≡◌, ℕ, Bool, true, false, cond, ◌&&◌, not, List, [], ◌∷◌, ◌++◌, length, drop, map, Option, Some, None, codes, refl, sym, ap, ◌∙◌, subst, append_assoc, Ordering}
-use Rattle.std.specs.Prelude.{bytes_eq, filter, filter_map, Result, Ok, Err, IfOk}
+use Rattle.std.proofs.Math.Seq.{take-length}
+use Rattle.std.proofs.Common.{◌≡◌, ℕ, suc, ◌+◌, ◌-◌, ◌<◌, take, length-drop, add-one, drop-cons, get_or, Bool, true, false, cond, ◌&&◌, not, List, [], ◌∷◌, ◌++◌, length, drop, map, Option, Some, None, codes, refl, sym, ap, ◌∙◌, subst, append_assoc, Ordering}
+use Rattle.std.specs.Prelude.{bytes_eq, filter, filter_map, option_and_then, Result, Ok, Err, IfOk}
 use Rattle.std.specs.Option.{option_map}
 use Rattle.std.specs.List.{list_all, cons_option}
 use Rattle.std.specs.FinMap.{keys}
@@ -14,24 +15,27 @@ use Rattle.kb_world.specs.Names.{is_word}
 use Rattle.kb_world.specs.Path.{Path, path_cmp, is_under}
 use Rattle.kb_world.specs.Roots.{AreApart, is_below}
 use Rattle.kb_world.specs.Tree.{Tree, node_at, kind_of, is_dir, is_file}
-use Rattle.kb_world.specs.Public.{is_private, is_loose}
+use Rattle.kb_world.specs.Public.{is_private}
+use Rattle.kb_world.specs.StorePath.{store_path, path_of}
 use Rattle.kb_world.specs.Boxes.{is_spot, chest_path}
 use Rattle.kb_world.specs.Steps as steps
 use Rattle.kb_world.specs.declared.roots.Roots.{Roots}
 use Rattle.kb_world.specs.declared.job.Spot.{Spot}
+use Rattle.kb_world.specs.declared.store_path.StorePath.{StorePath}
+use Rattle.kb_world.specs.declared.store_path.StorePath.TheVariants.{SourceLink, InScratch, Targets, InBox, KernelLink, InChest}
 use Rattle.kb_world.specs.declared.tree.Node.{Node}
 use Rattle.kb_world.specs.declared.tree.Node.TheVariants as node
-use Rattle.kb_world.proofs.NameLaws.{known}
 use Rattle.kb_world.proofs.PathLaws.{under-self, by_test}
-use Rattle.kb_world.proofs.PublicLaws.{in_dkms}
+use Rattle.kb_world.proofs.StorePathLaws.{place_back}
 use Rattle.kb_world.proofs.DamageLaws.{under-split}
 use Rattle.kb_store.specs.Walking.{paths_below, entries, met_at, is_dir_kind}
-use Rattle.kb_store.specs.Contents.{chest_by, chest_files, chest_at, kept_paths}
+use Rattle.kb_store.specs.Contents.{at_place, chest_of, chest_by, chest_files, kept_paths}
+use Rattle.kb_store.specs.Notes.{list_of}
 use Rattle.kb_store.specs.Chests.{is_file_kind, files_in, chest_met, chests_met}
 use Rattle.kb_store.specs.declared.store.Chest.{Chest}
 use Rattle.kb_store.specs.declared.walking.Met.{Met}
 use Rattle.kb_store.proofs.OrderLaws.{names_exact, untrue, rises}
-use Rattle.kb_store.proofs.WalkLaws.{below_more}
+use Rattle.kb_store.proofs.ToldByEntries.{open_place, below_place}
 use Rattle.kb_store.proofs.VisitLaws.{dir_of}
 use Rattle.kb_store.proofs.LimitLaws.{between}
 use Rattle.kb_store.proofs.MemberLaws.{entries_rise}
@@ -139,43 +143,36 @@ and_false : (a b : Bool) → ((a && false) && b) ≡ false
 and_false true b = refl
 and_false false b = refl
 
-module _ (roots : Roots) (apart : AreApart roots) (word : List ℕ) (spot : Spot) (worded : is_word word ≡ true) where
-  -- what is under a chest, by its names below the dkms root
-  inside : (path : Path) → is_under path (chest_path roots word spot) ≡ true
-      → path ≡ roots.dkms ++ word ∷ codes "original_module" ∷ spot.kernel ∷ spot.arch ∷ drop (length (chest_path roots word spot)) path
-  inside path under =
-      under-split path (chest_path roots word spot) under
-      ∙ append_assoc roots.dkms (word ∷ codes "original_module" ∷ spot.kernel ∷ spot.arch ∷ []) (drop (length (chest_path roots word spot)) path)
+module _ (roots : Roots) (apart : AreApart roots) (word : List ℕ) (spot : Spot) (ruled : (is_word word && is_spot spot) ≡ true) where
+  abbrev chest : Path
+  chest = chest_path roots word spot
 
-  pub chest_below : (path : Path) → is_under path (chest_path roots word spot) ≡ true → is_below path roots.dkms ≡ true
-  chest_below path under =
-      ap (λ p. is_below p roots.dkms) (inside path under)
-      ∙ below_more roots.dkms word (codes "original_module" ∷ spot.kernel ∷ spot.arch ∷ drop (length (chest_path roots word spot)) path)
+  -- what is under a chest
+  inside : (path : Path) → is_under path chest ≡ true → path ≡ path_of roots (InChest word spot (drop (length chest) path))
+  inside path under = under-split path chest under ∙ append_assoc roots.dkms (word ∷ codes "original_module" ∷ spot.kernel ∷ spot.arch ∷ []) (drop (length chest) path)
+
+  pub chest_below : (path : Path) → is_under path chest ≡ true → is_below path roots.dkms ≡ true
+  chest_below path under = ap (λ p. is_below p roots.dkms) (inside path under) ∙ below_place roots (InChest word spot (drop (length chest) path))
 
   -- nothing under a chest is private
-  pub chest_public : (path : Path) → is_under path (chest_path roots word spot) ≡ true → not (is_private roots path) ≡ true
-  chest_public path under =
-      let rest : Path = drop (length (chest_path roots word spot)) path in
-      let names : Path = word ∷ codes "original_module" ∷ spot.kernel ∷ spot.arch ∷ rest in
-      let always = in_dkms roots apart names ((known word worded).begins) (and_false (is_word word) (bytes_eq spot.kernel (codes "build"))) None in
-      ap (λ p. not (is_private roots p)) (inside path under)
-      ∙ second_so _ (not (is_private roots (roots.dkms ++ names))) (first_so _ (not (is_loose roots (roots.dkms ++ names) None)) always)
+  pub chest_public : (path : Path) → is_under path chest ≡ true → not (is_private roots path) ≡ true
+  chest_public path under = ap (λ p. not (is_private roots p)) (inside path under) ∙ ap not (open_place roots apart (InChest word spot (drop (length chest) path)) ruled refl)
 
 kept_of : (tree : Tree) (base : Path) (paths : List Path) → map (λ item. item.0) (steps.below tree base paths) ≡ map (drop (length base)) paths
 kept_of tree base [] = refl
 kept_of tree base (path ∷ paths) = ap (λ l. drop (length base) path ∷ l) (kept_of tree base paths)
 
 -- all kept files are among what was met behind the chest's directory
-pub kept_behind : (roots : Roots) → AreApart roots → (tree : Tree) (word : List ℕ) (spot : Spot) (front rest : List Path) → is_word word ≡ true → is_dir (node_at tree (chest_path roots word spot)) ≡ true
+pub kept_behind : (roots : Roots) → AreApart roots → (tree : Tree) (word : List ℕ) (spot : Spot) (front rest : List Path) → (is_word word && is_spot spot) ≡ true → is_dir (node_at tree (chest_path roots word spot)) ≡ true
     → entries tree (is_private roots) roots.dkms ≡ front ++ chest_path roots word spot ∷ rest
     → files_in (chest_path roots word spot) (map (met_at tree) rest) ≡ kept_paths roots tree word spot
-kept_behind roots apart tree word spot front rest worded there split =
+kept_behind roots apart tree word spot front rest ruled there split =
     let chest = chest_path roots word spot in
     let order = between front chest rest (subst (λ paths. rises paths ≡ true) split (entries_rise tree (is_private roots) roots.dkms)) in
     let own : is_kept tree chest chest ≡ false = ap (λ b. (is_under chest chest && not b) && is_file (node_at tree chest)) (under-self chest) ∙ and_false (is_under chest chest) (is_file (node_at tree chest)) in
     let found : filter (is_kept tree chest) (entries tree (is_private roots) roots.dkms) ≡ filter (is_kept tree chest) (keys tree) =
-    filter_within (is_kept tree chest) (λ path. not (is_private roots path)) (λ path h. chest_public roots apart word spot worded path (under_of path h)) (paths_below tree roots.dkms)
-    ∙ filter_within (is_kept tree chest) (λ path. is_below path roots.dkms) (λ path h. chest_below roots apart word spot worded path (under_of path h)) (keys tree) in
+    filter_within (is_kept tree chest) (λ path. not (is_private roots path)) (λ path h. chest_public roots apart word spot ruled path (under_of path h)) (paths_below tree roots.dkms)
+    ∙ filter_within (is_kept tree chest) (λ path. is_below path roots.dkms) (λ path h. chest_below roots apart word spot ruled path (under_of path h)) (keys tree) in
     files_below tree chest rest order.greater order.up
     ∙ ap (map (drop (length chest))) (
     sym (ap (λ b. cond b (chest ∷ filter (is_kept tree chest) rest) (filter (is_kept tree chest) rest)) own)
@@ -192,80 +189,69 @@ cond_none : {A : Type 0} (b : Bool) → ◌≡◌ {A = Option A} (cond b None No
 cond_none true = refl
 cond_none false = refl
 
--- the names of a chest's directory
-abbrev is_chest : List ℕ → List ℕ → Spot → Bool
-is_chest word name spot = is_word word && bytes_eq name (codes "original_module") && is_spot spot
-
-abbrev spot_of : List ℕ → List ℕ → Spot
-spot_of kernel arch = record { kernel = kernel; arch = arch }
-
-abbrev chest_of : List ℕ → Spot → List Path → Chest
-chest_of word spot paths = record { «module» = word; spot = spot; files = paths }
-
 module _ (roots : Roots) (apart : AreApart roots) (tree : Tree) where
+  abbrev met_files : Path → List Path → Option StorePath → Option Chest
+  met_files path rest = option_and_then (chest_by (λ word spot. Some (files_in path (map (met_at tree) rest))))
+
   -- what was met at a path tells of the chest that stands there
   chest_is : (front : List Path) (path : Path) (rest : List Path) → entries tree (is_private roots) roots.dkms ≡ front ++ path ∷ rest
-      → chest_met roots (met_at tree path) (map (met_at tree) rest) ≡ chest_at roots tree path
-  chest_is front path rest split = by_under (is_under path roots.dkms) refl
+      → chest_met roots (met_at tree path) (map (met_at tree) rest) ≡ at_place roots (chest_by (chest_files roots tree)) path
+  chest_is front path rest split = ap (λ b. cond b (met_files path rest (store_path roots path)) None) (dir_of (node_at tree path)) ∙ by (store_path roots path) refl
     where
-      by_dir : (word : List ℕ) (spot : Spot) → is_word word ≡ true → entries tree (is_private roots) roots.dkms ≡ front ++ chest_path roots word spot ∷ rest
-          → (b : Bool) → is_dir (node_at tree (chest_path roots word spot)) ≡ b
-          → cond b (Some (chest_of word spot (files_in (chest_path roots word spot) (map (met_at tree) rest)))) None ≡ option_map (chest_of word spot) (cond b (Some (kept_paths roots tree word spot)) None)
-      by_dir word spot worded there true e = ap (λ l. Some (chest_of word spot l)) (kept_behind roots apart tree word spot front rest worded e there)
-      by_dir word spot worded there false e = refl
+      by_dir : (word : List ℕ) (spot : Spot) → (is_word word && is_spot spot) ≡ true → path ≡ chest_path roots word spot → (b : Bool) → is_dir (node_at tree path) ≡ b
+          → cond b (met_files path rest (Some (InChest word spot []))) None ≡ chest_by (chest_files roots tree) (InChest word spot [])
+      by_dir word spot ruled here true there =
+          let stands : is_dir (node_at tree (chest_path roots word spot)) ≡ true = ap (λ p. is_dir (node_at tree p)) (sym here) ∙ there in
+          ap (λ p. Some (chest_of word spot (files_in p (map (met_at tree) rest)))) here
+          ∙ ap (λ l. Some (chest_of word spot l)) (kept_behind roots apart tree word spot front rest ruled stands (split ∙ ap (λ p. front ++ p ∷ rest) here))
+          ∙ sym (ap (λ b. option_map (chest_of word spot) (cond b (Some (kept_paths roots tree word spot)) None)) stands)
+      by_dir word spot ruled here false none =
+          sym (ap (λ b. option_map (chest_of word spot) (cond b (Some (kept_paths roots tree word spot)) None)) (ap (λ p. is_dir (node_at tree p)) (sym here) ∙ none))
 
-      by_chest : (word : List ℕ) (spot : Spot) → is_word word ≡ true → entries tree (is_private roots) roots.dkms ≡ front ++ chest_path roots word spot ∷ rest
-          → cond (is_dir (node_at tree (chest_path roots word spot))) (Some (chest_of word spot (files_in (chest_path roots word spot) (map (met_at tree) rest)))) None
-          ≡ option_map (chest_of word spot) (chest_files roots tree word spot)
-      by_chest word spot worded there =
-          by_cond (is_dir (node_at tree (chest_path roots word spot))) refl
-        where
-          by_cond : (b : Bool) → is_dir (node_at tree (chest_path roots word spot)) ≡ b
-              → cond (is_dir (node_at tree (chest_path roots word spot))) (Some (chest_of word spot (files_in (chest_path roots word spot) (map (met_at tree) rest)))) None
-              ≡ option_map (chest_of word spot) (chest_files roots tree word spot)
-          by_cond b e = ap (λ b. cond b (Some (chest_of word spot (files_in (chest_path roots word spot) (map (met_at tree) rest)))) None) e
-              ∙ by_dir word spot worded there b e ∙ sym (ap (λ b. option_map (chest_of word spot) (cond b (Some (kept_paths roots tree word spot)) None)) e)
-
-      by_word : (word name kernel arch : List ℕ) → path ≡ roots.dkms ++ word ∷ name ∷ kernel ∷ arch ∷ [] → (b : Bool) → is_chest word name (spot_of kernel arch) ≡ b
-          → cond (is_dir_kind (kind_of (node_at tree path))) (cond b (Some (chest_of word (spot_of kernel arch) (files_in path (map (met_at tree) rest)))) None) None
-          ≡ cond b (option_map (chest_of word (spot_of kernel arch)) (chest_files roots tree word (spot_of kernel arch))) None
-      by_word word name kernel arch is true e =
-          let worded = first_so (is_word word) (bytes_eq name (codes "original_module")) (first_so (is_word word && bytes_eq name (codes "original_module")) (is_spot (spot_of kernel arch)) e) in
-          let named = (bytes_decides name (codes "original_module")).0 (second_so (is_word word) (bytes_eq name (codes "original_module")) (first_so (is_word word && bytes_eq name (codes "original_module")) (is_spot (spot_of kernel arch)) e)) in
-          let here : path ≡ chest_path roots word (spot_of kernel arch) = is ∙ ap (λ n. roots.dkms ++ word ∷ n ∷ kernel ∷ arch ∷ []) named in
-          ap (λ b. cond b (Some (chest_of word (spot_of kernel arch) (files_in path (map (met_at tree) rest)))) None) (dir_of (node_at tree path))
-          ∙ ap (λ p. cond (is_dir (node_at tree p)) (Some (chest_of word (spot_of kernel arch) (files_in p (map (met_at tree) rest)))) None) here
-          ∙ by_chest word (spot_of kernel arch) worded (split ∙ ap (λ p. front ++ p ∷ rest) here)
-      by_word word name kernel arch is false e = cond_none (is_dir_kind (kind_of (node_at tree path)))
-
-      by_names : (names : Path) → path ≡ roots.dkms ++ names
-          → cond (is_dir_kind (kind_of (node_at tree path))) (chest_by (λ word spot. Some (files_in path (map (met_at tree) rest))) names) None ≡ chest_by (chest_files roots tree) names
-      by_names [] is = cond_none (is_dir_kind (kind_of (node_at tree path)))
-      by_names (word ∷ []) is = cond_none (is_dir_kind (kind_of (node_at tree path)))
-      by_names (word ∷ name ∷ []) is = cond_none (is_dir_kind (kind_of (node_at tree path)))
-      by_names (word ∷ name ∷ kernel ∷ []) is = cond_none (is_dir_kind (kind_of (node_at tree path)))
-      by_names (word ∷ name ∷ kernel ∷ arch ∷ []) is = by_word word name kernel arch is (is_chest word name (spot_of kernel arch)) refl
-      by_names (word ∷ name ∷ kernel ∷ arch ∷ more ∷ others) is = cond_none (is_dir_kind (kind_of (node_at tree path)))
-
-      by_under : (b : Bool) → is_under path roots.dkms ≡ b
-          → cond (is_dir_kind (kind_of (node_at tree path))) (cond b (chest_by (λ word spot. Some (files_in path (map (met_at tree) rest))) (drop (length roots.dkms) path)) None) None
-          ≡ cond b (chest_by (chest_files roots tree) (drop (length roots.dkms) path)) None
-      by_under true e = by_names (drop (length roots.dkms) path) (under-split path roots.dkms e)
-      by_under false e = cond_none (is_dir_kind (kind_of (node_at tree path)))
+      by : (told : Option StorePath) → store_path roots path ≡ told
+          → cond (is_dir (node_at tree path)) (met_files path rest (store_path roots path)) None ≡ at_place roots (chest_by (chest_files roots tree)) path
+      by (Some (InChest word spot [])) e =
+          let is = place_back roots path (InChest word spot []) e in
+          ap (λ o. cond (is_dir (node_at tree path)) (met_files path rest o) None) e
+          ∙ by_dir word spot is.ruled is.is (is_dir (node_at tree path)) refl ∙ sym (ap (option_and_then (chest_by (chest_files roots tree))) e)
+      by other e =
+          ap (λ o. cond (is_dir (node_at tree path)) (met_files path rest o) None) e
+          ∙ cond_none (is_dir (node_at tree path)) ∙ sym (ap (option_and_then (chest_by (chest_files roots tree))) e)
 
   -- what was met tells of the chests that stand there
-  chests_behind : (front paths : List Path) → entries tree (is_private roots) roots.dkms ≡ front ++ paths → chests_met roots (map (met_at tree) paths) ≡ filter_map (chest_at roots tree) paths
+  chests_behind : (front paths : List Path) → entries tree (is_private roots) roots.dkms ≡ front ++ paths → chests_met roots (map (met_at tree) paths) ≡ filter_map (at_place roots (chest_by (chest_files roots tree))) paths
   chests_behind front [] split = refl
   chests_behind front (path ∷ rest) split =
       ap (λ o. cons_option o (chests_met roots (map (met_at tree) rest))) (chest_is front path rest split)
-      ∙ ap (cons_option (chest_at roots tree path)) (chests_behind (front ++ path ∷ []) rest (split ∙ sym (append_assoc front (path ∷ []) rest)))
+      ∙ ap (cons_option (at_place roots (chest_by (chest_files roots tree)) path)) (chests_behind (front ++ path ∷ []) rest (split ∙ sym (append_assoc front (path ∷ []) rest)))
 
-  pub chests_are : chests_met roots (map (met_at tree) (entries tree (is_private roots) roots.dkms)) ≡ filter_map (chest_at roots tree) (entries tree (is_private roots) roots.dkms)
+  pub chests_are : chests_met roots (map (met_at tree) (entries tree (is_private roots) roots.dkms)) ≡ filter_map (at_place roots (chest_by (chest_files roots tree))) (entries tree (is_private roots) roots.dkms)
   chests_are = chests_behind [] (entries tree (is_private roots) roots.dkms) refl
 
 -- what a walk over all met, whatever the tree
 pub chests_met_are : {E : Type 0} (roots : Roots) (met : List Met) (result : Result (List Chest) E) → IfOk result (λ chests. chests ≡ chests_met roots met)
     → IfOk result (λ chests. AreApart roots → (tree : Tree) → met ≡ map (met_at tree) (entries tree (is_private roots) roots.dkms)
-    → chests ≡ filter_map (chest_at roots tree) (entries tree (is_private roots) roots.dkms))
+    → chests ≡ filter_map (at_place roots (chest_by (chest_files roots tree))) (entries tree (is_private roots) roots.dkms))
 chests_met_are roots met (Ok chests) told = λ apart tree is. told ∙ ap (chests_met roots) is ∙ chests_are roots apart tree
 chests_met_are roots met (Err why) told = tt
+
+-- one entry more
+pub chests_more : (roots : Roots) (met : List Met) (i : ℕ) (entry : Met) (chests new : List Chest) (chest : Option Chest) → i < length met → entry ≡ get_or met i entry
+    → chests_met roots met ≡ chests ++ chests_met roots (drop i met) → chest ≡ chest_met roots entry (take (length met - (i + 1)) (drop (i + 1) met)) → new ≡ chests ++ list_of chest
+    → chests_met roots met ≡ new ++ chests_met roots (drop (i + 1) met)
+chests_more roots met i entry chests new chest within is so_far told pushed =
+    so_far ∙ ap (λ l. chests ++ chests_met roots l) (at_drop met i entry within is) ∙ ap (λ o. chests ++ cons_option o rest) (sym (told ∙ ap (chest_met roots entry) whole)) ∙ ap (λ l. chests ++ l) (consed chest)
+    ∙ sym (append_assoc chests (list_of chest) rest) ∙ ap (λ l. l ++ rest) (sym pushed)
+  where
+    rest : List Chest
+    rest = chests_met roots (drop (i + 1) met)
+
+    whole : take (length met - (i + 1)) (drop (i + 1) met) ≡ drop (i + 1) met
+    whole = ap (λ n. take n (drop (i + 1) met)) (sym (length-drop (i + 1) met)) ∙ take-length (drop (i + 1) met)
+
+    consed : (o : Option Chest) → cons_option o rest ≡ list_of o ++ rest
+    consed None = refl
+    consed (Some x) = refl
+
+    at_drop : (met : List Met) (i : ℕ) (entry : Met) → i < length met → entry ≡ get_or met i entry → drop i met ≡ entry ∷ drop (i + 1) met
+    at_drop met i entry within is = rw (add-one, drop-cons met i entry) (ap (λ e. e ∷ drop (suc i) met) (sym is))

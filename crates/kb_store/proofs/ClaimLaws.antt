@@ -21,7 +21,7 @@ use Rattle.kb_store.specs.Claims.{lesser}
 use Rattle.kb_store.proofs.OrderLaws.{untrue}
 
 -- what a claim tells
-abbrev Told : Type 0
+abbrev pub Told : Type 0
 Told = Path × List ℕ
 
 -- ---- the order of claims
@@ -49,7 +49,7 @@ claims_exact a b h =
     λ i. (path i, word i)
 
 -- the second isn't less than the first
-abbrev up_to : Told → Told → Bool
+abbrev pub up_to : Told → Told → Bool
 up_to a b = not (is_lt (claim_cmp b a))
 
 up_to_itself : (a : Told) → up_to a a ≡ true
@@ -90,21 +90,21 @@ up_to_both a b h k = by (claim_cmp a b) refl
 
 -- ---- the least claim
 
-abbrev IsIn : Told → List Told → Type 0
+abbrev pub IsIn : Told → List Told → Type 0
 IsIn claim [] = ⊥
 IsIn claim (first ∷ claims) = (claim ≡ first) ⊎ IsIn claim claims
 
-all_at : (test : Told → Bool) (claims : List Told) (claim : Told) → list_all test claims ≡ true → IsIn claim claims → test claim ≡ true
+pub all_at : (test : Told → Bool) (claims : List Told) (claim : Told) → list_all test claims ≡ true → IsIn claim claims → test claim ≡ true
 all_at test [] claim all h = absurd h
 all_at test (first ∷ claims) claim all (inl is) = ap test is ∙ first_so (test first) (list_all test claims) all
 all_at test (first ∷ claims) claim all (inr later) = all_at test claims claim (second_so (test first) (list_all test claims) all) later
 
-in_front : (claim : Told) (a b : List Told) → IsIn claim a → IsIn claim (a ++ b)
+pub in_front : (claim : Told) (a b : List Told) → IsIn claim a → IsIn claim (a ++ b)
 in_front claim [] b h = absurd h
 in_front claim (first ∷ a) b (inl is) = inl is
 in_front claim (first ∷ a) b (inr later) = inr (in_front claim a b later)
 
-in_back : (claim : Told) (a b : List Told) → IsIn claim b → IsIn claim (a ++ b)
+pub in_back : (claim : Told) (a b : List Told) → IsIn claim b → IsIn claim (a ++ b)
 in_back claim [] b h = h
 in_back claim (first ∷ a) b h = inr (in_back claim a b h)
 
@@ -115,7 +115,7 @@ lower_bound a b (first ∷ claims) h all =
     both_true (up_to_more a b first h (first_so (up_to b first) (list_all (up_to b) claims) all)) (lower_bound a b claims h (second_so (up_to b first) (list_all (up_to b) claims) all))
 
 -- one of the claims, which none is less than; none where there is no claim
-abbrev IsLeast : List Told → Option Told → Type 0
+abbrev pub IsLeast : List Told → Option Told → Type 0
 IsLeast claims None = claims ≡ []
 IsLeast claims (Some least) = IsIn least claims × (list_all (up_to least) claims ≡ true)
 
@@ -163,7 +163,7 @@ found_none test (first ∷ claims) h claim here passes = by (test first) refl h 
     by false e is (inr later) rest = rest is later
 
 -- the definition gives the least claim
-least_is : (claims : List Told) → IsLeast claims (least_claim claims)
+pub least_is : (claims : List Told) → IsLeast claims (least_claim claims)
 least_is claims = by (least_claim claims) refl
   where
     none : least_claim claims ≡ None → (least : Option Told) → IsLeast claims least → IsLeast claims None

@@ -1,7 +1,7 @@
 -- The damage before the first path that passes a limit: the paths before that one tell of it, and those below the
 -- version that the path lies below.
-use Rattle.std.proofs.Common.{◌≡◌, ℕ, Bool, true, false, cond, ◌&&◌, not, List, [], ◌∷◌, ◌++◌, length, drop, map, Option, Some, None, is_some, codes, refl, sym, ap, ◌∙◌, subst, append_assoc, append-nil, Ordering}
-use Rattle.std.specs.Prelude.{bytes_eq, flat_map}
+use Rattle.std.proofs.Common.{◌≡◌, ℕ, Bool, true, false, cond, ◌&&◌, ◌||◌, not, List, [], ◌∷◌, ◌++◌, length, drop, map, Option, Some, None, is_some, codes, refl, sym, ap, ◌∙◌, subst, append_assoc, append-nil, Ordering}
+use Rattle.std.specs.Prelude.{flat_map, nat_lt}
 use Rattle.std.specs.List.{list_any}
 use Rattle.std.specs.FinMap.{keys}
 use Rattle.std.specs.declared.cmp.Ordering.TheVariants.{Less, Equal, Greater}
@@ -9,29 +9,31 @@ use Rattle.std.specs.Ordering.{is_lt, ordering_then, nat_cmp}
 use Rattle.std.specs.Cmp.{first_so, second_so}
 use Rattle.std.specs.Cmp.Derive.{both_true}
 use Rattle.std.specs.Cmp.Lexicographic.{slice_cmp, bytes_decides}
-use Rattle.kb_world.specs.Names.{is_word}
 use Rattle.kb_world.specs.Path.{Path, path_cmp, is_under}
 use Rattle.kb_world.specs.Roots.{AreApart, is_below}
+use Rattle.kb_world.specs.StorePath.{store_path, path_of}
 use Rattle.kb_world.specs.Tree.{Tree, node_at, is_file}
 use Rattle.kb_world.specs.TreeLaws.{same_path}
 use Rattle.kb_world.specs.Public.{is_private}
-use Rattle.kb_world.specs.Store.{is_key, is_added, link_path}
-use Rattle.kb_world.specs.Boxes.{is_spot, key_of, places_at, spot_of_link, linked_at, module_file, targets_path}
+use Rattle.kb_world.specs.Store.{is_added, link_path}
+use Rattle.kb_world.specs.Boxes.{places_at, kernel_link_path, linked_at, module_file, targets_path}
 use Rattle.kb_world.specs.Targets.{last_name}
-use Rattle.kb_world.specs.Damage.{least, hurt, harm_at, harm_below, link_harm, source_harm, box_harm, files_harm, unless_sound}
+use Rattle.kb_world.specs.Damage.{least, hurt, harm_by, harm_of, harm_at, files_harm, unless_sound}
 use Rattle.kb_world.specs.declared.roots.Roots.{Roots}
 use Rattle.kb_world.specs.declared.job.Key.{Key}
 use Rattle.kb_world.specs.declared.job.Spot.{Spot}
+use Rattle.kb_world.specs.declared.store_path.StorePath.{StorePath}
+use Rattle.kb_world.specs.declared.store_path.StorePath.TheVariants.{SourceLink, InScratch, Targets, InBox, KernelLink, InChest}
 use Rattle.kb_world.specs.declared.refusal.Refusal.TheVariants as refusal
-use Rattle.kb_world.proofs.PathLaws.{under-append, drop-front}
-use Rattle.kb_world.proofs.DamageLaws.{under-split, spot_of, link_names}
-use Rattle.kb_store.specs.Notes.{version_above, version_within, entries_if, version_entries}
-use Rattle.kb_store.specs.Read.{first_refusal}
+use Rattle.kb_world.proofs.PathLaws.{under-append, under-split, drop-front, by_test}
+use Rattle.kb_world.proofs.SpotLaws.{not_true}
+use Rattle.kb_world.proofs.StorePathLaws.{place_back}
+use Rattle.kb_store.specs.Notes.{version_above, version_within, is_deep, is_far, entries_if, version_entries}
+use Rattle.kb_store.specs.Read.{store_entries, first_refusal}
 use Rattle.kb_store.proofs.OrderLaws.{in_front, untrue, names_exact, is_in, in_more, rises}
 use Rattle.kb_store.proofs.MemberLaws.{not_itself, not_both, less_through, neither_less, front_or_behind, in_filter, in_entries, entries_rise, in_left, in_right, in_either, in_flat, flat_in, in_map, rises_behind, later_than}
 use Rattle.kb_store.proofs.WalkLaws.{below_more, cmp-append}
-use Rattle.kb_store.proofs.NoteLaws.{dkms_entries, harms_told}
-use Rattle.kb_world.proofs.PathLaws.{by_test}
+use Rattle.kb_store.proofs.ToldByEntries.{harms_told}
 
 -- ---- the least path
 
@@ -128,11 +130,6 @@ not_above d name rest h = untrue (sym (ap (λ p. is_lt (path_cmp (d ++ name ∷ 
 
 -- ---- which damaged paths a path tells of
 
--- what is in a list behind a test is in it
-in_open : (b : Bool) (xs : List Path) (path : Path) → is_in path (cond b xs []) → is_in path xs
-in_open true xs path h = h
-in_open false xs path h = absurd (untrue h)
-
 -- in a list of one path
 in_one : (path x : Path) → is_in path (x ∷ []) → path ≡ x
 in_one path x h = front_or_behind path x [] (path ≡ x) (λ e. e) (λ k. absurd (untrue k)) h
@@ -142,11 +139,6 @@ in_unless : (b : Bool) (path x : Path) → is_in path (unless_sound b x) → pat
 in_unless true path x h = absurd (untrue h)
 in_unless false path x h = in_one path x h
 
--- a link tells only of itself
-of_link : (roots : Roots) (tree : Tree) (at : Path) (word : List ℕ) (told : Option Spot) (path : Path) → is_in path (link_harm roots tree at word told) → path ≡ at
-of_link roots tree at word None path h = absurd (untrue h)
-of_link roots tree at word (Some spot) path h = in_unless (is_some (linked_at roots tree at word spot)) path at h
-
 -- below the build's directory
 of_files : (roots : Roots) (tree : Tree) (key : Key) (spot : Spot) (told : Option (List Path)) (path : Path) (C : Type 0)
     → ((more : Path) → path ≡ roots.dkms ++ key.module ∷ key.version ∷ spot.kernel ∷ more → C) → is_in path (files_harm roots tree key spot told) → C
@@ -155,27 +147,17 @@ of_files roots tree key spot (Some places) path C found h =
     in_map (module_file roots key spot) places path C (λ place e. found (spot.arch ∷ codes "module" ∷ last_name place ∷ []) e)
     (second_so (not (is_file (node_at tree path))) _ (sym (in_filter (λ file. not (is_file (node_at tree file))) (map (module_file roots key spot) places) path) ∙ h))
 
--- at the path itself, or both are below one version
-near : (roots : Roots) (tree : Tree) (names path : Path) (C : Type 0) → (path ≡ roots.dkms ++ names → C)
-    → ((word version next : List ℕ) (rest : Path) (other : List ℕ) (more : Path) → names ≡ word ∷ version ∷ next ∷ rest → path ≡ roots.dkms ++ word ∷ version ∷ other ∷ more → C)
-    → is_in path (harm_below roots tree names) → C
-near roots tree [] path C itself beside h = absurd (untrue h)
-near roots tree (word ∷ []) path C itself beside h = absurd (untrue h)
-near roots tree (word ∷ name ∷ []) path C itself beside h =
-    itself (of_link roots tree (roots.dkms ++ word ∷ name ∷ []) word (spot_of_link name) path (in_open (is_word word) (link_harm roots tree (roots.dkms ++ word ∷ name ∷ []) word (spot_of_link name)) path h))
-near roots tree (word ∷ version ∷ name ∷ []) path C itself beside h =
-    let key = key_of word version in
-    let is = in_unless (is_added roots key tree) path (link_path roots key) (in_open (is_key key && bytes_eq name (codes "source")) (source_harm roots tree key) path h) in
-    beside word version name [] (codes "source") [] refl (is ∙ link_names roots key)
-near roots tree (word ∷ version ∷ kernel ∷ arch ∷ []) path C itself beside h = absurd (untrue h)
-near roots tree (word ∷ version ∷ kernel ∷ arch ∷ name ∷ []) path C itself beside h =
-    let key = key_of word version in
-    let spot = spot_of kernel arch in
-    let box = in_open (is_key key && is_spot spot && bytes_eq name (codes "targets")) (box_harm roots tree key spot) path h in
+-- at the path itself, or in the version of a build
+near : (roots : Roots) (tree : Tree) (place : StorePath) (path : Path) (C : Type 0) → (path ≡ path_of roots place → C)
+    → ((key : Key) (spot : Spot) (other : List ℕ) (more : Path) → place ≡ Targets key spot → path ≡ roots.dkms ++ key.module ∷ key.version ∷ other ∷ more → C)
+    → is_in path (harm_by roots tree place) → C
+near roots tree (SourceLink key) path C itself beside h = itself (in_unless (is_added roots key tree) path (link_path roots key) h)
+near roots tree (Targets key spot) path C itself beside h =
     in_either path (unless_sound (is_some (node_at tree (link_path roots key))) (link_path roots key)) (files_harm roots tree key spot (places_at roots tree key spot)) C
-    (λ there. beside word version kernel (arch ∷ name ∷ []) (codes "source") [] refl (in_unless (is_some (node_at tree (link_path roots key))) path (link_path roots key) there ∙ link_names roots key))
-    (of_files roots tree key spot (places_at roots tree key spot) path C (λ more e. beside word version kernel (arch ∷ name ∷ []) kernel more refl e)) box
-near roots tree (word ∷ version ∷ kernel ∷ arch ∷ name ∷ more ∷ rest) path C itself beside h = absurd (untrue h)
+    (λ there. beside key spot (codes "source") [] refl (in_unless (is_some (node_at tree (link_path roots key))) path (link_path roots key) there))
+    (of_files roots tree key spot (places_at roots tree key spot) path C (λ more e. beside key spot spot.kernel more refl e)) h
+near roots tree (KernelLink word spot) path C itself beside h = itself (in_unless (is_some (linked_at roots tree (kernel_link_path roots word spot) word spot)) path (kernel_link_path roots word spot) h)
+near roots tree other path C itself beside h = absurd (untrue h)
 
 -- ---- the paths below the version
 
@@ -184,6 +166,11 @@ version_within-is : (roots : Roots) (word version name : List ℕ) (rest : Path)
 version_within-is roots word version name rest =
     ap (λ b. cond b (version_within roots (drop (length roots.dkms) (roots.dkms ++ word ∷ version ∷ name ∷ rest))) None) (under-append roots.dkms (word ∷ version ∷ name ∷ rest))
     ∙ ap (version_within roots) (drop-front roots.dkms (word ∷ version ∷ name ∷ rest))
+
+-- what isn't far isn't private
+not_far : (private deep : Bool) → not (private || deep) ≡ true → not private ≡ true
+not_far true deep h = h
+not_far false deep h = refl
 
 module _ (roots : Roots) (tree : Tree) where
   -- what is below the version's directory is below the dkms root
@@ -194,36 +181,29 @@ module _ (roots : Roots) (tree : Tree) where
       ap (λ p. is_below p roots.dkms) split ∙ below_more roots.dkms word (version ∷ drop (length d) path)
 
   -- what is below that version is an entry of the dkms root
-  within_entries : (names : Path) (path : Path) → is_in path (entries_if roots tree (version_within roots names)) → is_in path (dkms_entries roots tree)
+  within_entries : (names : Path) (path : Path) → is_in path (entries_if roots tree (version_within roots names)) → is_in path (store_entries roots tree)
   within_entries [] path h = absurd (untrue h)
   within_entries (word ∷ []) path h = absurd (untrue h)
   within_entries (word ∷ version ∷ []) path h = absurd (untrue h)
   within_entries (word ∷ version ∷ name ∷ rest) path h =
       let d : Path = roots.dkms ++ word ∷ version ∷ [] in
-      let here = sym (in_entries tree (is_private roots) d path) ∙ h in
-      let open_so = first_so (not (is_private roots path)) _ here in
-      let there = second_so (not (is_private roots path)) _ here in
+      let here = sym (in_entries tree (is_far roots d) d path) ∙ h in
+      let open_so = not_far (is_private roots path) (is_deep d path) (first_so (not (is_far roots d path)) _ here) in
+      let there = second_so (not (is_far roots d path)) _ here in
       in_entries tree (is_private roots) roots.dkms path
       ∙ both_true open_so (both_true (below_version word version path (first_so (is_below path d) _ there)) (second_so (is_below path d) _ there))
 
   -- the same of the version that a path lies below
-  beside_entries : (far path : Path) → is_in path (version_entries roots tree far) → is_in path (dkms_entries roots tree)
+  beside_entries : (far path : Path) → is_in path (version_entries roots tree far) → is_in path (store_entries roots tree)
   beside_entries far path h = by (is_under far roots.dkms) refl
     where
-      by : (b : Bool) → is_under far roots.dkms ≡ b → is_in path (dkms_entries roots tree)
+      by : (b : Bool) → is_under far roots.dkms ≡ b → is_in path (store_entries roots tree)
       by true e = within_entries (drop (length roots.dkms) far) path (sym (ap (λ b. list_any (same_path path) (entries_if roots tree (cond b (version_within roots (drop (length roots.dkms) far)) None))) e) ∙ h)
       by false e = absurd (untrue (sym (ap (λ b. list_any (same_path path) (entries_if roots tree (cond b (version_within roots (drop (length roots.dkms) far)) None))) e) ∙ h))
 
-  -- a path that is no less than the bound and tells of a lesser damaged one is below the same version
-  beside_far : (far t q : Path) → is_in t (dkms_entries roots tree) → is_lt (path_cmp t far) ≡ false → is_lt (path_cmp q far) ≡ true → is_in q (harm_at roots tree t) → is_in t (version_entries roots tree far)
-  beside_far far t q there late less h =
-      near roots tree (drop (length roots.dkms) t) q (is_in t (version_entries roots tree far))
-      (λ is. absurd (untrue (sym late ∙ ap (λ p. is_lt (path_cmp p far)) (split ∙ sym is) ∙ less)))
-      (λ word version next rest other more named is.
-      both_below (roots.dkms ++ word ∷ version ∷ []) word version refl next rest other more
-      (split ∙ ap (λ names. roots.dkms ++ names) named ∙ sym (append_assoc roots.dkms (word ∷ version ∷ []) (next ∷ rest)))
-      (is ∙ sym (append_assoc roots.dkms (word ∷ version ∷ []) (other ∷ more))))
-      (in_open (is_under t roots.dkms) (harm_below roots tree (drop (length roots.dkms) t)) q h)
+  -- a path that is no less than the bound and tells of a lesser damaged one is in the same version, and no deeper than is looked
+  beside_far : (far t q : Path) → is_in t (store_entries roots tree) → is_lt (path_cmp t far) ≡ false → is_lt (path_cmp q far) ≡ true → is_in q (harm_at roots tree t) → is_in t (version_entries roots tree far)
+  beside_far far t q there late less h = by (store_path roots t) refl h
     where
       here : (not (is_private roots t) && (is_below t roots.dkms && list_any (same_path t) (keys tree))) ≡ true
       here = sym (in_entries tree (is_private roots) roots.dkms t) ∙ there
@@ -231,45 +211,70 @@ module _ (roots : Roots) (tree : Tree) where
       inner : (is_below t roots.dkms && list_any (same_path t) (keys tree)) ≡ true
       inner = second_so (not (is_private roots t)) _ here
 
-      split : t ≡ roots.dkms ++ drop (length roots.dkms) t
-      split = under-split t roots.dkms (first_so (is_under t roots.dkms) (not (is_under roots.dkms t)) (first_so (is_below t roots.dkms) _ inner))
-
-      both_below : (d : Path) (word version : List ℕ) → d ≡ roots.dkms ++ word ∷ version ∷ [] → (next : List ℕ) (rest : Path) (other : List ℕ) (more : Path) → t ≡ d ++ next ∷ rest → q ≡ d ++ other ∷ more → is_in t (version_entries roots tree far)
-      both_below d word version d_is next rest other more t_is q_is =
-          let lesser : is_lt (path_cmp (d ++ other ∷ more) far) ≡ true = sym (ap (λ p. is_lt (path_cmp p far)) q_is) ∙ less in
-          let later : is_lt (path_cmp (d ++ next ∷ rest) far) ≡ false = sym (ap (λ p. is_lt (path_cmp p far)) t_is) ∙ late in
-          at_rest lesser (drop (length d) far) (under-split far d (between d (other ∷ more) (next ∷ rest) far lesser later))
+      both_below : (key : Key) (spot : Spot) (other : List ℕ) (more : Path) → t ≡ path_of roots (Targets key spot) → q ≡ roots.dkms ++ key.module ∷ key.version ∷ other ∷ more → is_in t (version_entries roots tree far)
+      both_below key spot other more t_is q_is =
+          at_rest (drop (length d) far) (under-split far d (between d (other ∷ more) tail far lesser later))
         where
-          at_rest : is_lt (path_cmp (d ++ other ∷ more) far) ≡ true → (r : Path) → far ≡ d ++ r → is_in t (version_entries roots tree far)
-          at_rest lesser [] is = absurd (not_above d other more (sym (ap (λ p. is_lt (path_cmp (d ++ other ∷ more) p)) (is ∙ append-nil d)) ∙ lesser))
-          at_rest lesser (name ∷ r) is =
-              let far_is : far ≡ roots.dkms ++ word ∷ version ∷ name ∷ r = is ∙ ap (λ p. p ++ name ∷ r) d_is ∙ append_assoc roots.dkms (word ∷ version ∷ []) (name ∷ r) in
-              let directory : version_above roots far ≡ Some d = ap (version_above roots) far_is ∙ version_within-is roots word version name r ∙ ap Some (sym d_is) in
-              ap (λ o. list_any (same_path t) (entries_if roots tree o)) directory ∙ in_entries tree (is_private roots) d t
-              ∙ both_true (first_so (not (is_private roots t)) _ here) (both_true (ap (λ p. is_below p d) t_is ∙ below_more d next rest) (second_so (is_below t roots.dkms) _ inner))
+          d : Path
+          d = roots.dkms ++ key.module ∷ key.version ∷ []
+
+          tail : Path
+          tail = spot.kernel ∷ spot.arch ∷ codes "targets" ∷ []
+
+          t_split : t ≡ d ++ tail
+          t_split = t_is ∙ sym (append_assoc roots.dkms (key.module ∷ key.version ∷ []) tail)
+
+          lesser : is_lt (path_cmp (d ++ other ∷ more) far) ≡ true
+          lesser = sym (ap (λ p. is_lt (path_cmp p far)) (q_is ∙ sym (append_assoc roots.dkms (key.module ∷ key.version ∷ []) (other ∷ more)))) ∙ less
+
+          later : is_lt (path_cmp (d ++ tail) far) ≡ false
+          later = sym (ap (λ p. is_lt (path_cmp p far)) t_split) ∙ late
+
+          shallow : is_deep d t ≡ false
+          shallow = ap (is_deep d) t_split ∙ ap (λ p. is_under (d ++ tail) d && nat_lt 3 (length p)) (drop-front d tail) ∙ ap (λ b. b && false) (under-append d tail)
+
+          near_so : not (is_far roots d t) ≡ true
+          near_so = ap (λ b. not (b || is_deep d t)) (not_true (is_private roots t) (first_so (not (is_private roots t)) _ here)) ∙ ap not shallow
+
+          at_rest : (r : Path) → far ≡ d ++ r → is_in t (version_entries roots tree far)
+          at_rest [] is = absurd (not_above d other more (sym (ap (λ p. is_lt (path_cmp (d ++ other ∷ more) p)) (is ∙ append-nil d)) ∙ lesser))
+          at_rest (name ∷ r) is =
+              let far_is : far ≡ roots.dkms ++ key.module ∷ key.version ∷ name ∷ r = is ∙ append_assoc roots.dkms (key.module ∷ key.version ∷ []) (name ∷ r) in
+              let directory : version_above roots far ≡ Some d = ap (version_above roots) far_is ∙ version_within-is roots key.module key.version name r in
+              ap (λ o. list_any (same_path t) (entries_if roots tree o)) directory ∙ in_entries tree (is_far roots d) d t
+              ∙ both_true near_so (both_true (ap (λ p. is_below p d) t_split ∙ below_more d spot.kernel (spot.arch ∷ codes "targets" ∷ [])) (second_so (is_below t roots.dkms) _ inner))
+
+      by : (told : Option StorePath) → store_path roots t ≡ told → is_in q (harm_at roots tree t) → is_in t (version_entries roots tree far)
+      by None e h = absurd (untrue (sym (ap (λ o. list_any (same_path q) (harm_of roots tree o)) e) ∙ h))
+      by (Some place) e h =
+          let is = (place_back roots t place e).is in
+          near roots tree place q (is_in t (version_entries roots tree far))
+          (λ same. absurd (untrue (sym late ∙ ap (λ p. is_lt (path_cmp p far)) (is ∙ sym same) ∙ less)))
+          (λ key spot other more placed. both_below key spot other more (is ∙ ap (path_of roots) placed))
+          (sym (ap (λ o. list_any (same_path q) (harm_of roots tree o)) e) ∙ h)
 
   -- the damage before a bound is told by the paths before it and those below the version that it lies below
-  pub far_harms : AreApart roots → (before : List Path) (far : Path) (behind : List Path) → dkms_entries roots tree ≡ before ++ far ∷ behind
+  pub far_harms : AreApart roots → (before : List Path) (far : Path) (behind : List Path) → store_entries roots tree ≡ before ++ far ∷ behind
       → first_refusal (least (flat_map (harm_at roots tree) (before ++ version_entries roots tree far))) (Some far) ≡ first_refusal (hurt roots tree) (Some far)
   unfolding hurt
   far_harms apart before far behind e =
-      same_refusal far (flat_map (harm_at roots tree) (before ++ version_entries roots tree far)) (flat_map (harm_at roots tree) (dkms_entries roots tree)) (λ q less h. forth q h) back
+      same_refusal far (flat_map (harm_at roots tree) (before ++ version_entries roots tree far)) (flat_map (harm_at roots tree) (store_entries roots tree)) (λ q less h. forth q h) back
       ∙ ap (λ paths. first_refusal (least paths) (Some far)) (sym (harms_told roots apart tree))
     where
       up : rises (far ∷ behind) ≡ true
       up = rises_behind before (far ∷ behind) (sym (ap rises e) ∙ entries_rise tree (is_private roots) roots.dkms)
 
-      forth : (q : Path) → is_in q (flat_map (harm_at roots tree) (before ++ version_entries roots tree far)) → is_in q (flat_map (harm_at roots tree) (dkms_entries roots tree))
-      forth q h = in_flat (harm_at roots tree) (before ++ version_entries roots tree far) q (is_in q (flat_map (harm_at roots tree) (dkms_entries roots tree))) (λ t there here.
-          flat_in (harm_at roots tree) (dkms_entries roots tree) t q
-          (in_either t before (version_entries roots tree far) (is_in t (dkms_entries roots tree)) (λ l. ap (list_any (same_path t)) e ∙ in_left t before (far ∷ behind) l) (beside_entries far t) there) here) h
+      forth : (q : Path) → is_in q (flat_map (harm_at roots tree) (before ++ version_entries roots tree far)) → is_in q (flat_map (harm_at roots tree) (store_entries roots tree))
+      forth q h = in_flat (harm_at roots tree) (before ++ version_entries roots tree far) q (is_in q (flat_map (harm_at roots tree) (store_entries roots tree))) (λ t there here.
+          flat_in (harm_at roots tree) (store_entries roots tree) t q
+          (in_either t before (version_entries roots tree far) (is_in t (store_entries roots tree)) (λ l. ap (list_any (same_path t)) e ∙ in_left t before (far ∷ behind) l) (beside_entries far t) there) here) h
 
       late : (t : Path) → is_in t (far ∷ behind) → is_lt (path_cmp t far) ≡ false
       late t h = by_test (is_lt (path_cmp t far)) (λ less.
           front_or_behind t far behind ⊥ (λ is. not_itself far (sym (ap (λ p. is_lt (path_cmp p far)) is) ∙ less)) (λ later. not_both t far less (later_than far behind up t later)) h)
 
-      back : HasLesser far (flat_map (harm_at roots tree) (dkms_entries roots tree)) (flat_map (harm_at roots tree) (before ++ version_entries roots tree far))
-      back q less h = in_flat (harm_at roots tree) (dkms_entries roots tree) q (is_in q (flat_map (harm_at roots tree) (before ++ version_entries roots tree far))) (λ t there here.
+      back : HasLesser far (flat_map (harm_at roots tree) (store_entries roots tree)) (flat_map (harm_at roots tree) (before ++ version_entries roots tree far))
+      back q less h = in_flat (harm_at roots tree) (store_entries roots tree) q (is_in q (flat_map (harm_at roots tree) (before ++ version_entries roots tree far))) (λ t there here.
           flat_in (harm_at roots tree) (before ++ version_entries roots tree far) t q
           (in_either t before (far ∷ behind) (is_in t (before ++ version_entries roots tree far)) (in_left t before (version_entries roots tree far))
           (λ r. in_right t before (version_entries roots tree far) (beside_far far t q there (late t r) less here)) (sym (ap (list_any (same_path t)) e) ∙ there)) here) h

@@ -3,13 +3,13 @@ pub mod ClaimLaws
 pub mod ContentsLaws
 pub mod EntryLaws
 pub mod FarLaws
+pub mod InstalledClaims
 pub mod LimitLaws
-pub mod LinkLaws
 pub mod LookLaws
 pub mod MemberLaws
-pub mod NoteLaws
-pub mod NotedLaws
-pub mod NotingLaws
+pub mod NotesOfLists
+pub mod NotesOfPlaces
+pub mod NotingLoops
 pub mod OrderLaws
 pub mod PartLaws
 pub mod PlaceLaws
@@ -18,6 +18,7 @@ pub mod ReadLaws
 pub mod ReadingLaws
 pub mod RereadLaws
 pub mod TargetsLaws
-pub mod TellLaws
+pub mod ToldByEntries
+pub mod ToldIsThere
 pub mod VisitLaws
 pub mod WalkLaws

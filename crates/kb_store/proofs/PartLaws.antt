@@ -1,4 +1,4 @@
--- Where the parts of a store stand, and what their links say.
+-- What the links of spots say, and the names of a build's places.
 use Rattle.std.proofs.Common.{◌≡◌, ℕ, ◌-◌, Bool, true, false, cond, ◌&&◌, not, List, [], ◌∷◌, ◌++◌, length, take, nat_eq, nat_le, codes, Option, Some, None, refl, sym, ap, ◌∙◌, subst, arith, append_assoc, length-append}
 use Rattle.std.specs.Prelude.{bytes_eq, IsTrue, IfSome}
 use Rattle.std.specs.List.{list_all}
@@ -18,62 +18,6 @@ use Rattle.kb_world.specs.declared.job.Spot.{Spot}
 use Rattle.kb_world.proofs.NameLaws.{word-is_name, version-is_word, joined-is_name, is_name_byte}
 use Rattle.kb_world.proofs.TargetsLaws.{read}
 use Rattle.kb_store.proofs.PlaceLaws.{file_named}
-
--- ---- names
-
-pub named_as : (name text : List ℕ) → name ≡ text → is_name text ≡ true → is_name name ≡ true
-named_as name text same h = subst (λ n. is_name n ≡ true) (sym same) h
-
--- a byte that passes is none that doesn't
-other : (c d : ℕ) (b : Bool) → nat_eq c d ≡ b → is_one_of (codes "_") c ≡ true → is_one_of (codes "_") d ≡ false → not b ≡ true
-other c d true e h none = let q : true ≡ false = sym h ∙ ap (is_one_of (codes "_")) (eqb-true c d e) ∙ none in cc
-other c d false e h none = refl
-
-arch_bytes : (name : List ℕ) → list_all (is_one_of (codes "_")) name ≡ true → list_all is_name_byte name ≡ true
-arch_bytes [] h = refl
-arch_bytes (c ∷ name) h =
-    let here = first_so (is_one_of (codes "_") c) (list_all (is_one_of (codes "_")) name) h in
-    both_true (both_true (other c 47 (nat_eq c 47) refl here refl) (other c 0 (nat_eq c 0) refl here refl)) (arch_bytes name (second_so (is_one_of (codes "_") c) (list_all (is_one_of (codes "_")) name) h))
-
-no_dots : (name dots : List ℕ) (same : Bool) → bytes_eq name dots ≡ same → list_all (is_one_of (codes "_")) name ≡ true → list_all (is_one_of (codes "_")) dots ≡ false → not same ≡ true
-no_dots name dots true e h none = let q : true ≡ false = sym h ∙ ap (list_all (is_one_of (codes "_"))) ((bytes_decides name dots).0 e) ∙ none in cc
-no_dots name dots false e h none = refl
-
--- an architecture can name an entry of a directory
-pub arch-is_name : (name : List ℕ) → is_arch name ≡ true → is_name name ≡ true
-arch-is_name name h =
-    let front = first_so (nat_le 1 (length name) && nat_le (length name) 32) (list_all (is_one_of (codes "_")) name) h in
-    let bytes = second_so (nat_le 1 (length name) && nat_le (length name) 32) (list_all (is_one_of (codes "_")) name) h in
-    let short = leb-true (length name) 32 (second_so (nat_le 1 (length name)) (nat_le (length name) 32) front) in
-    both_true (both_true (both_true (both_true (first_so (nat_le 1 (length name)) (nat_le (length name) 32) front) (le-leb (length name) 255 (omega (arith, short)))) (arch_bytes name bytes))
-    (no_dots name (codes ".") (bytes_eq name (codes ".")) refl bytes refl)) (no_dots name (codes "..") (bytes_eq name (codes "..")) refl bytes refl)
-
-pub kernel-is_name : (name : List ℕ) → is_kernel name ≡ true → is_name name ≡ true
-kernel-is_name name h = word-is_name name (first_so (is_word name) _ (first_so (is_word name && not (bytes_eq name (codes "build"))) _ h))
-
-pub module_named : (key : Key) → is_key key ≡ true → is_name key.module ≡ true
-module_named key h = word-is_name key.module (first_so (is_word key.module) (is_version key.version) h)
-
-pub version_named : (key : Key) → is_key key ≡ true → is_name key.version ≡ true
-version_named key h = word-is_name key.version (version-is_word key.version (second_so (is_word key.module) (is_version key.version) h))
-
-pub source_named : (key : Key) → is_key key ≡ true → is_name (key.module ++ codes "-" ++ key.version) ≡ true
-source_named key h = joined-is_name key.module key.version (first_so (is_word key.module) (is_version key.version) h) (version-is_word key.version (second_so (is_word key.module) (is_version key.version) h))
-
--- ---- paths
-
--- the path of a box, by its names
-pub box_names : (roots : Roots) (key : Key) (spot : Spot) (more : Path) → child (child (version_path roots key) spot.kernel) spot.arch ++ more ≡ in_box roots key spot more
-box_names roots key spot more =
-    let d = roots.dkms in
-    append_assoc (child (version_path roots key) spot.kernel) (spot.arch ∷ []) more
-    ∙ append_assoc (version_path roots key) (spot.kernel ∷ []) (spot.arch ∷ more)
-    ∙ append_assoc (child d key.module) (key.version ∷ []) (spot.kernel ∷ spot.arch ∷ more)
-    ∙ append_assoc d (key.module ∷ []) (key.version ∷ spot.kernel ∷ spot.arch ∷ more)
-
--- a path in a box
-pub box_entry : (roots : Roots) (key : Key) (spot : Spot) (path : Path) (name : List ℕ) → path ≡ in_box roots key spot [] → child path name ≡ in_box roots key spot (name ∷ [])
-box_entry roots key spot path name is = ap (λ p. child p name) is ∙ append_assoc roots.dkms (key.module ∷ key.version ∷ spot.kernel ∷ spot.arch ∷ []) (name ∷ [])
 
 -- ---- the text of a spot's link
 

@@ -1,44 +1,44 @@
 -- What a store's paths tell is all in the public tree.
 use Rattle.std.proofs.Common.{◌≡◌, ℕ, ◌+◌, nat_eq, Bool, true, false, cond, ◌&&◌, ◌||◌, not, List, [], ◌∷◌, ◌++◌, length, drop, map, Option, Some, None, is_some, codes, refl, sym, ap, ◌∙◌, append_assoc}
-use Rattle.std.specs.Prelude.{bytes_eq, filter, filter_map, flat_map, option_and_then}
-use Rattle.std.specs.List.{list_all, list_any}
+use Rattle.std.specs.Prelude.{filter, filter_map, flat_map, nat_lt, slice_get, option_and_then}
+use Rattle.std.specs.List.{find, list_all, list_any}
 use Rattle.std.specs.Option.{unwrap_or}
 use Rattle.std.specs.FinMap.{keys}
 use Rattle.std.specs.Cmp.{first_so, second_so}
 use Rattle.std.specs.Cmp.Derive.{both_true}
-use Rattle.kb_world.specs.Names.{is_word, is_version, is_kernel, begins_alphanumeric}
+use Rattle.kb_world.specs.Names.{is_word}
 use Rattle.kb_world.specs.Path.{Path, is_under}
 use Rattle.kb_world.specs.Roots.{AreApart, is_below}
+use Rattle.kb_world.specs.StorePath.{is_ruled, store_path, path_of, is_in_scratch}
 use Rattle.kb_world.specs.Tree.{Tree, node_at, is_dir, is_file, link_text, file_bytes}
 use Rattle.kb_world.specs.TreeLaws.{same_path}
-use Rattle.kb_world.specs.Public.{is_private, is_scratch, public_tree}
-use Rattle.kb_world.specs.Store.{is_key, is_added, added_at, link_path, source_text, says, package_of}
+use Rattle.kb_world.specs.Public.{is_private, public_tree}
+use Rattle.kb_world.specs.Store.{is_key, is_added, added_by, link_path, source_text, says}
 use Rattle.kb_world.specs.Targets.{last_name, targets_of}
-use Rattle.kb_world.specs.Boxes.{is_spot, key_of, spot_of_link, boxed, is_built, has_files, places_at, module_file, installed, linked_at, kernel_link_path, kernel_link_name, version_of, chest_path}
+use Rattle.kb_world.specs.Boxes.{is_spot, key_of, boxed, is_built, has_files, places_at, module_file, installed, linked_at, kernel_link_path, version_of, chest_path}
 use Rattle.kb_world.specs.Steps.{kept_files}
 use Rattle.kb_world.specs.Steps as steps
-use Rattle.kb_world.specs.Damage.{least, hurt, harm_at, harm_below, link_harm, box_harm, files_harm, unless_sound}
+use Rattle.kb_world.specs.Damage.{least, hurt, harm_by, harm_of, harm_at, files_harm, unless_sound}
 use Rattle.kb_world.specs.declared.roots.Roots.{Roots}
 use Rattle.kb_world.specs.declared.job.Key.{Key}
 use Rattle.kb_world.specs.declared.job.Spot.{Spot}
+use Rattle.kb_world.specs.declared.store_path.StorePath.{StorePath}
+use Rattle.kb_world.specs.declared.store_path.StorePath.TheVariants.{SourceLink, InScratch, Targets, InBox, KernelLink, InChest}
 use Rattle.kb_world.specs.declared.tree.Node.TheVariants as node
-use Rattle.kb_world.proofs.PathLaws.{elsewhere}
-use Rattle.kb_world.proofs.DamageLaws.{under-split, spot_of, link_names}
+use Rattle.kb_world.proofs.PathLaws.{elsewhere, under-split}
+use Rattle.kb_world.proofs.PublicLaws.{shown, written_apart, IsAlwaysPublic}
+use Rattle.kb_world.proofs.PublicPlaces.{public_place}
 use Rattle.kb_world.proofs.SoundLaws.{told-version}
-use Rattle.kb_world.proofs.SpotLaws.{link_spotted}
-use Rattle.kb_world.proofs.PublicLaws.{in_dkms, shown, written_apart, IsAlwaysPublic}
-use Rattle.kb_store.specs.Contents.{build_at, installation_at, chest_at, chest_files, store_of}
-use Rattle.kb_store.specs.Notes.{told_build, told_installation}
-use Rattle.kb_store.specs.Read.{read_of, over, first_refusal, store_unless}
-use Rattle.kb_store.specs.Walking.{walked, walk_on, meets, LIMITS}
-use Rattle.kb_store.specs.declared.walking.Limits.{Limits}
-use Rattle.kb_store.specs.declared.walking.Walk.{Walk}
-use Rattle.kb_store.proofs.OrderLaws.{not_true, in_front, untrue, is_in, in_more}
+use Rattle.kb_world.proofs.SpotLaws.{not_true}
+use Rattle.kb_world.proofs.StorePathLaws.{place_back}
+use Rattle.kb_store.specs.Contents.{at_place, build_by, installation_by, chest_by, chest_files, store_of}
+use Rattle.kb_store.specs.Notes.{linked, first_of_two}
+use Rattle.kb_store.specs.Read.{store_entries, is_too_deep, read_of, over, first_refusal, store_unless}
+use Rattle.kb_store.proofs.OrderLaws.{in_front, is_in, in_more}
 use Rattle.kb_store.proofs.MemberLaws.{in_filter, in_entries, entries_rise, rises_filter, map_same, same_members}
+use Rattle.kb_store.proofs.ToldByEntries.{AreAlike, then_same, place_same, build_same, installation_same, chest_same, told_by_entries, harms_told}
+use Rattle.kb_store.proofs.ToldIsThere.{linked_version}
 use Rattle.kb_store.proofs.WalkLaws.{rises_keys, standing}
-use Rattle.kb_store.proofs.NoteLaws.{linked_version, dkms_entries, may_tell, word_tells, kernel_plain, source_plain, chest_plain, open_same, then_same, build_same, installation_same, chest_same, added_told, builds_held, installations_held, chests_held, harms_told}
-
--- ---- below the dkms root a path is public exactly where it isn't private
 
 -- whatever stands below the dkms root at a path that isn't private is public
 open_below : (roots : Roots) → AreApart roots → (path : Path) → is_private roots path ≡ false → is_below path roots.dkms ≡ true → IsAlwaysPublic roots path
@@ -53,16 +53,13 @@ guarded true true x y same = same refl refl
 guarded true false x y same = refl
 guarded false b x y same = refl
 
--- walks over the same paths, at which the same stands, meet the same
-pub walk_same : (one other : Tree) (most deepest : ℕ) (walk : Walk) (paths : List Path) → ((path : Path) → is_in path paths → node_at one path ≡ node_at other path) → walk_on one most deepest walk paths ≡ walk_on other most deepest walk paths
-walk_same one other most deepest walk [] same = refl
-walk_same one other most deepest walk (path ∷ paths) same =
-    let here : meets one most deepest walk path ≡ meets other most deepest walk path = at_walk walk.over refl in
-    ap (λ w. walk_on one most deepest w paths) here ∙ walk_same one other most deepest (meets other most deepest walk path) paths (λ q h. same q (in_more q path paths h))
-  where
-    at_walk : (o : Option Path) → walk.over ≡ o → meets one most deepest walk path ≡ meets other most deepest walk path
-    at_walk (Some over) e = rw e refl
-    at_walk None e = let stands = same path (in_front path paths) in rw (e, stands) refl
+-- the same is found first of paths at which tests are the same
+find_same : (f g : Path → Bool) (paths : List Path) → ((path : Path) → is_in path paths → f path ≡ g path) → find f paths ≡ find g paths
+find_same f g [] same = refl
+find_same f g (path ∷ paths) same =
+    let here = same path (in_front path paths) in
+    let later = find_same f g paths (λ q h. same q (in_more q path paths h)) in
+    λ i. cond (here i) (Some path) (later i)
 
 -- a list of what fails a test, among what is named
 fails_same : (f g : Path → Bool) (name : Path → Path) (xs : List Path) → ((x : Path) → f (name x) ≡ g (name x)) → filter (λ x. not (f x)) (map name xs) ≡ filter (λ x. not (g x)) (map name xs)
@@ -77,87 +74,50 @@ first_guarded : (a x y u v : Bool) → (a ≡ true → x ≡ y) → (a ≡ true 
 first_guarded true x y u v same and_same = let e = same refl in let f = and_same refl in λ i. e i && f i
 first_guarded false x y u v same and_same = refl
 
--- none is no package
-no_package : (key : Key) → None ≡ Some key → ⊥
-no_package key h = cc
-
--- a package is one whose names keep their rules
-package_key : (names : Path) (key : Key) → package_of names ≡ Some key → is_key key ≡ true
-package_key [] key h = absurd (no_package key h)
-package_key (word ∷ []) key h = absurd (no_package key h)
-package_key (word ∷ version ∷ []) key h = absurd (no_package key h)
-package_key (word ∷ version ∷ name ∷ []) key h = by (is_word word && is_version version && bytes_eq name (codes "source")) refl
-  where
-    by : (b : Bool) → (is_word word && is_version version && bytes_eq name (codes "source")) ≡ b → is_key key ≡ true
-    by true e =
-        let some : Some (key_of word version) ≡ Some key = sym (ap (λ b. cond b (Some (key_of word version)) None) e) ∙ h in
-        let is : key_of word version ≡ key = cc in
-        ap is_key (sym is) ∙ first_so (is_word word && is_version version) (bytes_eq name (codes "source")) e
-    by false e = absurd (no_package key (sym (ap (λ b. cond b (Some (key_of word version)) None) e) ∙ h))
-package_key (word ∷ version ∷ name ∷ more ∷ rest) key h = absurd (no_package key h)
-
 module _ (roots : Roots) (apart : AreApart roots) (tree : Tree) where
   -- below the dkms root the public tree has what the tree has, where it isn't private
   pub shown_below : (path : Path) → is_private roots path ≡ false → is_below path roots.dkms ≡ true → node_at (public_tree roots tree) path ≡ node_at tree path
   shown_below path plain h = shown roots tree path (open_below roots apart path plain h)
 
   -- so its entries are the same
-  pub entries_public : dkms_entries roots (public_tree roots tree) ≡ dkms_entries roots tree
-  entries_public = same_members (dkms_entries roots (public_tree roots tree)) (dkms_entries roots tree) (entries_rise (public_tree roots tree) (is_private roots) roots.dkms) (entries_rise tree (is_private roots) roots.dkms) (λ path.
+  pub entries_public : store_entries roots (public_tree roots tree) ≡ store_entries roots tree
+  entries_public = same_members (store_entries roots (public_tree roots tree)) (store_entries roots tree) (entries_rise (public_tree roots tree) (is_private roots) roots.dkms) (entries_rise tree (is_private roots) roots.dkms) (λ path.
       members (public_tree roots tree) path
       ∙ guarded (not (is_private roots path)) (is_below path roots.dkms) _ _ (λ plain h. ap is_some (shown_below path (not_true (is_private roots path) plain) h))
       ∙ sym (members tree path))
     where
-      members : (t : Tree) (path : Path) → list_any (same_path path) (dkms_entries roots t) ≡ (not (is_private roots path) && (is_below path roots.dkms && is_some (node_at t path)))
+      members : (t : Tree) (path : Path) → list_any (same_path path) (store_entries roots t) ≡ (not (is_private roots path) && (is_below path roots.dkms && is_some (node_at t path)))
       members t path = in_entries t (is_private roots) roots.dkms path ∙ ap (λ b. not (is_private roots path) && (is_below path roots.dkms && b)) (sym (standing t path))
 
   -- and the same stands at them
-  pub entry_shown : (path : Path) → is_in path (dkms_entries roots tree) → node_at (public_tree roots tree) path ≡ node_at tree path
+  pub entry_shown : (path : Path) → is_in path (store_entries roots tree) → node_at (public_tree roots tree) path ≡ node_at tree path
   entry_shown path h =
       let here = sym (in_entries tree (is_private roots) roots.dkms path) ∙ h in
       shown_below path (not_true (is_private roots path) (first_so (not (is_private roots path)) _ here)) (first_so (is_below path roots.dkms) _ (second_so (not (is_private roots path)) _ here))
 
-  -- so a walk meets the same
-  pub walked_public : (limits : Limits) → walked limits (public_tree roots tree) (is_private roots) roots.dkms ≡ walked limits tree (is_private roots) roots.dkms
-  unfolding walked
-  walked_public limits =
-      let start : Walk = record { met = []; over = None } in
-      ap (walk_on (public_tree roots tree) limits.entries (length roots.dkms + limits.depth) start) entries_public
-      ∙ walk_same (public_tree roots tree) tree limits.entries (length roots.dkms + limits.depth) start (dkms_entries roots tree) entry_shown
+  -- so the same passes a limit
+  pub over_public : over roots (public_tree roots tree) ≡ over roots tree
+  over_public =
+      (λ i. first_of_two (slice_get (entries_public i) 65536) (find (is_too_deep roots (public_tree roots tree)) (entries_public i)))
+      ∙ ap (first_of_two (slice_get (store_entries roots tree) 65536))
+      (find_same (is_too_deep roots (public_tree roots tree)) (is_too_deep roots tree) (store_entries roots tree)
+      (λ path h. ap (λ at. nat_lt (length roots.dkms + 64) (length path) && is_dir at) (entry_shown path h)))
 
   -- ---- what stands at the stated paths
 
-  -- at names that may tell something the same stands
-  names_shown : (names : Path) → may_tell names ≡ true → node_at (public_tree roots tree) (roots.dkms ++ names) ≡ node_at tree (roots.dkms ++ names)
-  names_shown [] h = absurd (untrue h)
-  names_shown (name ∷ rest) h =
-      shown roots tree (roots.dkms ++ name ∷ rest) (in_dkms roots apart (name ∷ rest) (first_so (begins_alphanumeric name) (not (is_scratch (name ∷ rest))) h)
-      (not_true (is_scratch (name ∷ rest)) (second_so (begins_alphanumeric name) (not (is_scratch (name ∷ rest))) h)))
-
-  -- at a version's link
-  link_shown : (key : Key) → is_key key ≡ true → node_at (public_tree roots tree) (link_path roots key) ≡ node_at tree (link_path roots key)
-  link_shown key named =
-      ap (node_at (public_tree roots tree)) (link_names roots key)
-      ∙ names_shown (key.module ∷ key.version ∷ codes "source" ∷ []) (word_tells key.module (key.version ∷ codes "source" ∷ []) (first_so (is_word key.module) (is_version key.version) named) (source_plain key.module key.version (codes "source") [] refl))
-      ∙ sym (ap (node_at tree) (link_names roots key))
-
-  -- at a build's directory and below it
-  box_shown : (key : Key) (spot : Spot) → is_key key ≡ true → is_spot spot ≡ true → (names : Path)
-      → node_at (public_tree roots tree) (roots.dkms ++ key.module ∷ key.version ∷ spot.kernel ∷ spot.arch ∷ names) ≡ node_at tree (roots.dkms ++ key.module ∷ key.version ∷ spot.kernel ∷ spot.arch ∷ names)
-  box_shown key spot named spotted names =
-      names_shown (key.module ∷ key.version ∷ spot.kernel ∷ spot.arch ∷ names)
-      (word_tells key.module (key.version ∷ spot.kernel ∷ spot.arch ∷ names) (first_so (is_word key.module) (is_version key.version) named) (kernel_plain key.module key.version spot.kernel (spot.arch ∷ names) (first_so (is_kernel spot.kernel) _ spotted)))
+  place_shown : (place : StorePath) → is_ruled place ≡ true → is_in_scratch (Some place) ≡ false → node_at (public_tree roots tree) (path_of roots place) ≡ node_at tree (path_of roots place)
+  place_shown place ruled open_to = shown roots tree (path_of roots place) (public_place roots apart place ruled open_to)
 
   -- ---- versions and builds
 
   added_same : (key : Key) → is_key key ≡ true → is_added roots key (public_tree roots tree) ≡ is_added roots key tree
-  added_same key named = ap (λ at. says (source_text roots key) (link_text at)) (link_shown key named)
+  added_same key named = ap (λ at. says (source_text roots key) (link_text at)) (place_shown (SourceLink key) named refl)
 
   places_same : (key : Key) (spot : Spot) → is_key key ≡ true → is_spot spot ≡ true → places_at roots (public_tree roots tree) key spot ≡ places_at roots tree key spot
-  places_same key spot named spotted = ap (λ at. option_and_then targets_of (file_bytes at)) (box_shown key spot named spotted (codes "targets" ∷ []))
+  places_same key spot named spotted = ap (λ at. option_and_then targets_of (file_bytes at)) (place_shown (Targets key spot) (both_true named spotted) refl)
 
   file_same : (key : Key) (spot : Spot) → is_key key ≡ true → is_spot spot ≡ true → (place : Path) → is_file (node_at (public_tree roots tree) (module_file roots key spot place)) ≡ is_file (node_at tree (module_file roots key spot place))
-  file_same key spot named spotted place = ap is_file (box_shown key spot named spotted (codes "module" ∷ last_name place ∷ []))
+  file_same key spot named spotted place = ap is_file (place_shown (InBox key spot (codes "module" ∷ last_name place ∷ [])) (both_true (both_true named spotted) refl) refl)
 
   files_same : (key : Key) (spot : Spot) → is_key key ≡ true → is_spot spot ≡ true → (places : List Path) → has_files roots (public_tree roots tree) key spot places ≡ has_files roots tree key spot places
   files_same key spot named spotted places = ap (λ test. list_all test places) (λ i place. file_same key spot named spotted place i)
@@ -170,11 +130,10 @@ module _ (roots : Roots) (apart : AreApart roots) (tree : Tree) where
 
   -- ---- links of spots
 
-  linked_same : (word name : List ℕ) (spot : Spot) → is_word word ≡ true → is_spot spot ≡ true
-      → linked_at roots (public_tree roots tree) (roots.dkms ++ word ∷ name ∷ []) word spot ≡ linked_at roots tree (roots.dkms ++ word ∷ name ∷ []) word spot
-  linked_same word name spot named spotted =
-      let path : Path = roots.dkms ++ word ∷ name ∷ [] in
-      let stands = names_shown (word ∷ name ∷ []) (word_tells word (name ∷ []) named refl) in
+  linked_same : (word : List ℕ) (spot : Spot) → is_word word ≡ true → is_spot spot ≡ true → linked roots (public_tree roots tree) word spot ≡ linked roots tree word spot
+  linked_same word spot named spotted =
+      let path : Path = kernel_link_path roots word spot in
+      let stands = place_shown (KernelLink word spot) (both_true named spotted) refl in
       ap (λ at. option_and_then (λ version. cond (is_built roots (public_tree roots tree) (key_of word version) spot) (Some version) None) (option_and_then (version_of spot) (link_text at))) stands
       ∙ then_same (λ version. cond (is_built roots (public_tree roots tree) (key_of word version) spot) (Some version) None) (λ version. cond (is_built roots tree (key_of word version) spot) (Some version) None)
       (option_and_then (version_of spot) (link_text (node_at tree path)))
@@ -184,7 +143,7 @@ module _ (roots : Roots) (apart : AreApart roots) (tree : Tree) where
   installed_same word spot named spotted =
       let path : Path = kernel_link_path roots word spot in
       let said = option_and_then (version_of spot) (link_text (node_at tree path)) in
-      ap (option_and_then (λ version. cond (is_some (boxed roots (public_tree roots tree) (key_of word version) spot)) (Some version) None)) (linked_same word (kernel_link_name spot) spot named spotted)
+      ap (option_and_then (λ version. cond (is_some (boxed roots (public_tree roots tree) (key_of word version) spot)) (Some version) None)) (linked_same word spot named spotted)
       ∙ then_same (λ version. cond (is_some (boxed roots (public_tree roots tree) (key_of word version) spot)) (Some version) None) (λ version. cond (is_some (boxed roots tree (key_of word version) spot)) (Some version) None)
       (linked_at roots tree path word spot)
       (λ version e. ap (λ told. cond (is_some told) (Some version) None)
@@ -193,27 +152,17 @@ module _ (roots : Roots) (apart : AreApart roots) (tree : Tree) where
   -- ---- kept files
 
   -- at a chest and below it
-  chest_shown : (word : List ℕ) (spot : Spot) → is_word word ≡ true → (rest : Path) → node_at (public_tree roots tree) (chest_path roots word spot ++ rest) ≡ node_at tree (chest_path roots word spot ++ rest)
-  chest_shown word spot named rest =
-      let names : Path = word ∷ codes "original_module" ∷ spot.kernel ∷ spot.arch ∷ rest in
-      let is : chest_path roots word spot ++ rest ≡ roots.dkms ++ names = append_assoc roots.dkms (word ∷ codes "original_module" ∷ spot.kernel ∷ spot.arch ∷ []) rest in
-      ap (node_at (public_tree roots tree)) is
-      ∙ names_shown names (word_tells word (codes "original_module" ∷ spot.kernel ∷ spot.arch ∷ rest) named (chest_plain word (codes "original_module") (spot.kernel ∷ spot.arch ∷ rest) refl))
-      ∙ sym (ap (node_at tree) is)
-
-  below_chest : (word : List ℕ) (spot : Spot) → is_word word ≡ true → (path : Path) → is_below path (chest_path roots word spot) ≡ true → node_at (public_tree roots tree) path ≡ node_at tree path
-  below_chest word spot named path h =
+  below_chest : (word : List ℕ) (spot : Spot) → (is_word word && is_spot spot) ≡ true → (path : Path) → is_below path (chest_path roots word spot) ≡ true → node_at (public_tree roots tree) path ≡ node_at tree path
+  below_chest word spot ruled path h =
       let chest = chest_path roots word spot in
-      let split = under-split path chest (first_so (is_under path chest) (not (is_under chest path)) h) in
-      ap (node_at (public_tree roots tree)) split ∙ chest_shown word spot named (drop (length chest) path) ∙ sym (ap (node_at tree) split)
-
-  chest_dir : (word : List ℕ) (spot : Spot) → is_word word ≡ true → node_at (public_tree roots tree) (chest_path roots word spot) ≡ node_at tree (chest_path roots word spot)
-  chest_dir word spot named =
-      names_shown (word ∷ codes "original_module" ∷ spot.kernel ∷ spot.arch ∷ []) (word_tells word (codes "original_module" ∷ spot.kernel ∷ spot.arch ∷ []) named (chest_plain word (codes "original_module") (spot.kernel ∷ spot.arch ∷ []) refl))
+      let rest = drop (length chest) path in
+      let split : path ≡ path_of roots (InChest word spot rest) =
+      under-split path chest (first_so (is_under path chest) (not (is_under chest path)) h) ∙ append_assoc roots.dkms (word ∷ codes "original_module" ∷ spot.kernel ∷ spot.arch ∷ []) rest in
+      ap (node_at (public_tree roots tree)) split ∙ place_shown (InChest word spot rest) ruled refl ∙ sym (ap (node_at tree) split)
 
   -- the same files are kept
-  kept_same : (word : List ℕ) (spot : Spot) → is_word word ≡ true → kept_files roots (public_tree roots tree) word spot ≡ kept_files roots tree word spot
-  kept_same word spot named = let stands = chest_dir word spot named in λ i. cond (is_dir (stands i)) (listed i) []
+  kept_same : (word : List ℕ) (spot : Spot) → (is_word word && is_spot spot) ≡ true → kept_files roots (public_tree roots tree) word spot ≡ kept_files roots tree word spot
+  kept_same word spot ruled = let stands = place_shown (InChest word spot []) ruled refl in λ i. cond (is_dir (stands i)) (listed i) []
     where
       chest : Path
       chest = chest_path roots word spot
@@ -228,7 +177,7 @@ module _ (roots : Roots) (apart : AreApart roots) (tree : Tree) where
       same_paths = same_members (files (public_tree roots tree)) (files tree) (rises_filter (λ q. is_below q chest && is_file (node_at (public_tree roots tree) q)) (keys (public_tree roots tree)) (rises_keys (public_tree roots tree)))
           (rises_filter (λ q. is_below q chest && is_file (node_at tree q)) (keys tree) (rises_keys tree)) (λ path.
           members (public_tree roots tree) path
-          ∙ first_guarded (is_below path chest) _ _ _ _ (λ h. ap is_file (below_chest word spot named path h)) (λ h. ap is_some (below_chest word spot named path h))
+          ∙ first_guarded (is_below path chest) _ _ _ _ (λ h. ap is_file (below_chest word spot ruled path h)) (λ h. ap is_some (below_chest word spot ruled path h))
           ∙ sym (members tree path))
 
       listed : steps.below (public_tree roots tree) chest (files (public_tree roots tree)) ≡ steps.below tree chest (files tree)
@@ -237,13 +186,13 @@ module _ (roots : Roots) (apart : AreApart roots) (tree : Tree) where
           ∙ map_same (λ path. (drop (length chest) path, unwrap_or (node_at (public_tree roots tree) path) node.Dir)) (λ path. (drop (length chest) path, unwrap_or (node_at tree path) node.Dir)) (files tree)
           (λ path h.
           let here = sym (in_filter (λ q. is_below q chest && is_file (node_at tree q)) (keys tree) path) ∙ h in
-          let stands = below_chest word spot named path (first_so (is_below path chest) (is_file (node_at tree path)) (first_so (is_below path chest && is_file (node_at tree path)) _ here)) in
+          let stands = below_chest word spot ruled path (first_so (is_below path chest) (is_file (node_at tree path)) (first_so (is_below path chest && is_file (node_at tree path)) _ here)) in
           λ i. (drop (length chest) path, unwrap_or (stands i) node.Dir))
 
   chest_files_same : (word : List ℕ) (spot : Spot) → is_word word ≡ true → is_spot spot ≡ true → chest_files roots (public_tree roots tree) word spot ≡ chest_files roots tree word spot
   chest_files_same word spot named spotted =
-      let stands = chest_dir word spot named in
-      let kept = kept_same word spot named in
+      let stands = place_shown (InChest word spot []) (both_true named spotted) refl in
+      let kept = kept_same word spot (both_true named spotted) in
       λ i. cond (is_dir (stands i)) (Some (map (λ item. item.0) (kept i))) None
 
   -- ---- damage
@@ -253,77 +202,48 @@ module _ (roots : Roots) (apart : AreApart roots) (tree : Tree) where
   files_harm_same key spot named spotted (Some places) =
       fails_same (λ file. is_file (node_at (public_tree roots tree) file)) (λ file. is_file (node_at tree file)) (module_file roots key spot) places (file_same key spot named spotted)
 
-  box_harm_same : (key : Key) (spot : Spot) → is_key key ≡ true → is_spot spot ≡ true → box_harm roots (public_tree roots tree) key spot ≡ box_harm roots tree key spot
-  box_harm_same key spot named spotted =
-      let stands = link_shown key named in
+  harm_same : AreAlike (harm_by roots (public_tree roots tree)) (harm_by roots tree)
+  harm_same (SourceLink key) ruled = ap (λ b. unless_sound b (link_path roots key)) (added_same key ruled)
+  harm_same (Targets key spot) ruled =
+      let named = first_so (is_key key) (is_spot spot) ruled in
+      let spotted = second_so (is_key key) (is_spot spot) ruled in
+      let stands = place_shown (SourceLink key) named refl in
       let told = ap (files_harm roots (public_tree roots tree) key spot) (places_same key spot named spotted) ∙ files_harm_same key spot named spotted (places_at roots tree key spot) in
       λ i. unless_sound (is_some (stands i)) (link_path roots key) ++ told i
+  harm_same (KernelLink word spot) ruled =
+      ap (λ o. unless_sound (is_some o) (kernel_link_path roots word spot)) (linked_same word spot (first_so (is_word word) (is_spot spot) ruled) (second_so (is_word word) (is_spot spot) ruled))
+  harm_same other ruled = refl
 
-  link_harm_same : (word name : List ℕ) → is_word word ≡ true → (told : Option Spot) → spot_of_link name ≡ told
-      → link_harm roots (public_tree roots tree) (roots.dkms ++ word ∷ name ∷ []) word told ≡ link_harm roots tree (roots.dkms ++ word ∷ name ∷ []) word told
-  link_harm_same word name named None e = refl
-  link_harm_same word name named (Some spot) e = ap (λ o. unless_sound (is_some o) (roots.dkms ++ word ∷ name ∷ [])) (linked_same word name spot named (link_spotted name spot e))
-
-  harm_below_same : (names : Path) → harm_below roots (public_tree roots tree) names ≡ harm_below roots tree names
-  harm_below_same [] = refl
-  harm_below_same (word ∷ []) = refl
-  harm_below_same (word ∷ name ∷ []) = open_same (is_word word) _ _ [] (λ named. link_harm_same word name named (spot_of_link name) refl)
-  harm_below_same (word ∷ version ∷ name ∷ []) = open_same (is_key (key_of word version) && bytes_eq name (codes "source")) _ _ [] (λ e.
-      ap (λ b. unless_sound b (link_path roots (key_of word version))) (added_same (key_of word version) (first_so (is_key (key_of word version)) (bytes_eq name (codes "source")) e)))
-  harm_below_same (word ∷ version ∷ kernel ∷ arch ∷ []) = refl
-  harm_below_same (word ∷ version ∷ kernel ∷ arch ∷ name ∷ []) =
-      let key = key_of word version in
-      let spot = spot_of kernel arch in
-      open_same (is_key key && is_spot spot && bytes_eq name (codes "targets")) _ _ [] (λ e.
-      let front = first_so (is_key key && is_spot spot) (bytes_eq name (codes "targets")) e in
-      box_harm_same key spot (first_so (is_key key) (is_spot spot) front) (second_so (is_key key) (is_spot spot) front))
-  harm_below_same (word ∷ version ∷ kernel ∷ arch ∷ name ∷ more ∷ rest) = refl
+  harm_public : (path : Path) → harm_at roots (public_tree roots tree) path ≡ harm_at roots tree path
+  harm_public path = by (store_path roots path) (λ place e. (place_back roots path place e).ruled)
+    where
+      by : (told : Option StorePath) → ((place : StorePath) → told ≡ Some place → is_ruled place ≡ true) → harm_of roots (public_tree roots tree) told ≡ harm_of roots tree told
+      by None ruled = refl
+      by (Some place) ruled = harm_same place (ruled place refl)
 
   -- ---- what each path tells
 
-  pub added_public : (path : Path) → added_at roots (public_tree roots tree) path ≡ added_at roots tree path
-  added_public path = by (package_of (drop (length roots.dkms) path)) refl
-    where
-      by : (told : Option Key) → package_of (drop (length roots.dkms) path) ≡ told → added_at roots (public_tree roots tree) path ≡ added_at roots tree path
-      by None e = rw e refl
-      by (Some key) e = let same = added_same key (package_key (drop (length roots.dkms) path) key e) in rw (e, same) refl
-
-  pub build_public : (path : Path) → build_at roots (public_tree roots tree) path ≡ build_at roots tree path
-  build_public path = ap (λ o. cond (is_under path roots.dkms) o None) (build_same (boxed roots (public_tree roots tree)) (boxed roots tree) boxed_same (drop (length roots.dkms) path))
-
-  pub told_build_public : (path : Path) → told_build roots (public_tree roots tree) path ≡ told_build roots tree path
-  told_build_public path = ap (λ o. cond (is_under path roots.dkms) o None) (build_same (places_at roots (public_tree roots tree)) (places_at roots tree) places_same (drop (length roots.dkms) path))
-
-  pub installation_public : (path : Path) → installation_at roots (public_tree roots tree) path ≡ installation_at roots tree path
-  installation_public path = ap (λ o. cond (is_under path roots.dkms) o None) (installation_same (installed roots (public_tree roots tree)) (installed roots tree) installed_same (drop (length roots.dkms) path))
-
-  pub told_installation_public : (path : Path) → told_installation roots (public_tree roots tree) path ≡ told_installation roots tree path
-  told_installation_public path =
-      ap (λ o. cond (is_under path roots.dkms) o None)
-      (installation_same (λ word spot. linked_at roots (public_tree roots tree) (kernel_link_path roots word spot) word spot) (λ word spot. linked_at roots tree (kernel_link_path roots word spot) word spot)
-      (λ word spot named spotted. linked_same word (kernel_link_name spot) spot named spotted) (drop (length roots.dkms) path))
-
-  pub chest_public : (path : Path) → chest_at roots (public_tree roots tree) path ≡ chest_at roots tree path
-  chest_public path = ap (λ o. cond (is_under path roots.dkms) o None) (chest_same (chest_files roots (public_tree roots tree)) (chest_files roots tree) chest_files_same (drop (length roots.dkms) path))
-
-  pub harm_public : (path : Path) → harm_at roots (public_tree roots tree) path ≡ harm_at roots tree path
-  harm_public path = ap (λ l. cond (is_under path roots.dkms) l []) (harm_below_same (drop (length roots.dkms) path))
+  added_alike : AreAlike (added_by roots (public_tree roots tree)) (added_by roots tree)
+  added_alike (SourceLink key) ruled = ap (λ b. cond b (Some key) None) (added_same key ruled)
+  added_alike other ruled = refl
 
   -- ---- and so what the store holds
 
   -- over all paths
-  pub all_public : {A : Type 0} (f g : Path → Option A) → ((path : Path) → f path ≡ g path) → filter_map f (keys (public_tree roots tree)) ≡ filter_map f (dkms_entries roots (public_tree roots tree))
-      → filter_map g (keys tree) ≡ filter_map g (dkms_entries roots tree) → filter_map f (keys (public_tree roots tree)) ≡ filter_map g (keys tree)
-  all_public f g same of_public of_tree = of_public ∙ (λ i. filter_map (λ path. same path i) (entries_public i)) ∙ sym of_tree
+  pub all_public : {A : Type 0} (f g : StorePath → Option A) → AreAlike f g → ((key : Key) (rest : Path) → f (InScratch key rest) ≡ None) → ((key : Key) (rest : Path) → g (InScratch key rest) ≡ None)
+      → filter_map (at_place roots f) (keys (public_tree roots tree)) ≡ filter_map (at_place roots g) (keys tree)
+  all_public f g alike f_silent g_silent =
+      told_by_entries roots apart f f_silent (public_tree roots tree) ∙ (λ i. filter_map (λ path. place_same roots f g alike path i) (entries_public i)) ∙ sym (told_by_entries roots apart g g_silent tree)
 
   -- the public tree holds the same store
   pub store_public : store_of roots (public_tree roots tree) ≡ store_of roots tree
   unfolding store_of
   store_public =
-      let added = all_public (added_at roots (public_tree roots tree)) (added_at roots tree) added_public (added_told roots apart (public_tree roots tree)) (added_told roots apart tree) in
-      let builds = all_public (build_at roots (public_tree roots tree)) (build_at roots tree) build_public (builds_held roots apart (public_tree roots tree)) (builds_held roots apart tree) in
-      let installed = all_public (installation_at roots (public_tree roots tree)) (installation_at roots tree) installation_public (installations_held roots apart (public_tree roots tree)) (installations_held roots apart tree) in
-      let chests = all_public (chest_at roots (public_tree roots tree)) (chest_at roots tree) chest_public (chests_held roots apart (public_tree roots tree)) (chests_held roots apart tree) in
+      let shown_tree = public_tree roots tree in
+      let added = all_public (added_by roots shown_tree) (added_by roots tree) added_alike (λ key rest. refl) (λ key rest. refl) in
+      let builds = all_public (build_by (boxed roots shown_tree)) (build_by (boxed roots tree)) (build_same (boxed roots shown_tree) (boxed roots tree) boxed_same) (λ key rest. refl) (λ key rest. refl) in
+      let installed = all_public (installation_by (installed roots shown_tree)) (installation_by (installed roots tree)) (installation_same (installed roots shown_tree) (installed roots tree) installed_same) (λ key rest. refl) (λ key rest. refl) in
+      let chests = all_public (chest_by (chest_files roots shown_tree)) (chest_by (chest_files roots tree)) (chest_same (chest_files roots shown_tree) (chest_files roots tree) chest_files_same) (λ key rest. refl) (λ key rest. refl) in
       λ i. record { added = added i; builds = builds i; installed = installed i; chests = chests i }
 
   -- its first damaged path is the same
@@ -336,6 +256,6 @@ module _ (roots : Roots) (apart : AreApart roots) (tree : Tree) where
   unfolding read_of
   read_public =
       let hurts = hurt_public in
-      let walks = walked_public LIMITS in
+      let walks = over_public in
       let stores = store_public in
-      λ i. store_unless (first_refusal (hurts i) ((walks i).over)) (stores i)
+      λ i. store_unless (first_refusal (hurts i) (walks i)) (stores i)

@@ -19,14 +19,15 @@ use Rattle.kb_world.proofs.DamageLaws.{under-split}
 use Rattle.kb_world.proofs.DoesLaws.{cause_then, unchanged_then}
 use Rattle.kb_world.specs.Public.{is_private}
 use Rattle.kb_world.specs.Roots.{AreApart, is_below}
-use Rattle.kb_world.specs.Store.{added_at}
+use Rattle.kb_world.specs.Store.{added_at, added_by}
+use Rattle.kb_world.specs.Boxes.{places_at}
 use Rattle.kb_world.specs.Damage.{hurt, least, harm_at}
 use Rattle.kb_world.specs.declared.roots.Roots.{Roots}
 use Rattle.kb_world.specs.declared.job.Key.{Key}
 use Rattle.kb_world.specs.declared.refusal.Refusal.{Refusal}
-use Rattle.kb_store.specs.Contents.{build_at, installation_at, chest_at, store_of}
-use Rattle.kb_store.specs.Notes.{told_build, told_installation, noted, noted_all, no_notes, notes_of, version_above, version_within, version_entries}
-use Rattle.kb_store.specs.Read.{first_refusal, over, store_refusal, store_unless, read_of, entries_over, paths_met, IsReading, IsWholeReading}
+use Rattle.kb_store.specs.Contents.{at_place, build_by, installation_by, chest_by, chest_files, store_of}
+use Rattle.kb_store.specs.Notes.{linked, told_build, told_installation, noted, noted_all, no_notes, notes_of, version_above, version_within, version_entries}
+use Rattle.kb_store.specs.Read.{store_entries, first_refusal, over, store_refusal, store_unless, read_of, entries_over, paths_met, IsReading, IsWholeReading}
 use Rattle.kb_store.specs.Walking.{walked, LIMITS, met_at}
 use Rattle.kb_store.specs.declared.notes.Notes.{Notes}
 use Rattle.kb_store.specs.declared.read.Reading.{Reading}
@@ -37,12 +38,13 @@ use Rattle.kb_store.specs.declared.store.Store.{Store}
 use Rattle.kb_store.specs.declared.walking.Met.{Met}
 use Rattle.kb_store.specs.declared.walking.Walk.{Walk}
 use Rattle.kb_store.proofs.FarLaws.{far_harms}
-use Rattle.kb_store.proofs.LimitLaws.{met_all, met_before}
+use Rattle.kb_store.proofs.LimitLaws.{met_all, met_before, over_is}
 use Rattle.kb_store.proofs.MemberLaws.{in_entries}
 use Rattle.kb_store.proofs.OrderLaws.{is_in, in_front, in_more}
-use Rattle.kb_store.proofs.TellLaws.{noted_all_is}
+use Rattle.kb_store.proofs.NotesOfLists.{noted_all_is}
 use Rattle.kb_store.proofs.WalkLaws.{dir_above, standing}
-use Rattle.kb_store.proofs.NoteLaws.{dkms_entries, added_told, builds_told, installations_told, chests_held, harms_told, told_builds_held, told_installations_held}
+use Rattle.kb_store.proofs.ToldByEntries.{told_by_entries, harms_told}
+use Rattle.kb_store.proofs.ToldIsThere.{told_builds_held, told_installations_held}
 use Rattle.kb_store.proofs.ReadLaws.{unhurt}
 
 -- the paths of entries are the entries
@@ -52,26 +54,22 @@ paths_of_met tree (path ∷ paths) = ap (λ rest. path ∷ rest) (paths_of_met t
 
 -- a whole reading of a store without damage is that store
 pub whole_is_store : (roots : Roots) → AreApart roots → (tree : Tree) → hurt roots tree ≡ None → (met : List Met) (notes : Notes) → IsWholeReading roots tree met notes
-    → (chests : List Chest) → chests ≡ filter_map (chest_at roots tree) (dkms_entries roots tree)
+    → (chests : List Chest) → chests ≡ filter_map (at_place roots (chest_by (chest_files roots tree))) (store_entries roots tree)
     → record { added = notes.added; builds = notes.builds; installed = notes.installed; chests = chests } ≡ store_of roots tree
 unfolding store_of
 whole_is_store roots apart tree sound met notes is chests chests_are =
-    let paths : paths_met met ≡ dkms_entries roots tree = ap paths_met is.all ∙ paths_of_met tree (dkms_entries roots tree) in
-    let added_is : notes.added ≡ filter_map (added_at roots tree) (keys tree) = is.added ∙ ap (filter_map (added_at roots tree)) paths ∙ sym (added_told roots apart tree) in
-    let builds_are : notes.builds ≡ filter_map (build_at roots tree) (keys tree) =
-    is.builds ∙ ap (filter_map (told_build roots tree)) paths ∙ sym (builds_told roots apart tree) ∙ told_builds_held roots tree sound in
-    let installed_are : notes.installed ≡ filter_map (installation_at roots tree) (keys tree) =
-    is.installed ∙ ap (filter_map (told_installation roots tree)) paths ∙ sym (installations_told roots apart tree) ∙ told_installations_held roots tree sound in
-    let all_chests = chests_are ∙ sym (chests_held roots apart tree) in
-    ap (λ (added : List Key). record { added = added; builds = notes.builds; installed = notes.installed; chests = chests }) added_is
-    ∙ ap (λ (builds : List Build). record { added = filter_map (added_at roots tree) (keys tree); builds = builds; installed = notes.installed; chests = chests }) builds_are
-    ∙ ap (λ (installed : List Installation). record { added = filter_map (added_at roots tree) (keys tree); builds = filter_map (build_at roots tree) (keys tree); installed = installed; chests = chests }) installed_are
-    ∙ ap (λ (all : List Chest). record { added = filter_map (added_at roots tree) (keys tree); builds = filter_map (build_at roots tree) (keys tree); installed = filter_map (installation_at roots tree) (keys tree); chests = all }) all_chests
+    let paths : paths_met met ≡ store_entries roots tree = ap paths_met is.all ∙ paths_of_met tree (store_entries roots tree) in
+    let added = is.added ∙ ap (filter_map (added_at roots tree)) paths ∙ sym (told_by_entries roots apart (added_by roots tree) (λ key rest. refl) tree) in
+    let builds = is.builds ∙ ap (filter_map (told_build roots tree)) paths ∙ sym (told_by_entries roots apart (build_by (places_at roots tree)) (λ key rest. refl) tree) ∙ told_builds_held roots tree sound in
+    let installed = is.installed ∙ ap (filter_map (told_installation roots tree)) paths ∙ sym (told_by_entries roots apart (installation_by (linked roots tree)) (λ key rest. refl) tree)
+    ∙ told_installations_held roots tree sound in
+    let all_chests = chests_are ∙ sym (told_by_entries roots apart (chest_by (chest_files roots tree)) (λ key rest. refl) tree) in
+    λ i. record { added = added i; builds = builds i; installed = installed i; chests = all_chests i }
 
 -- ---- the refusal
 
 -- the damage that the entries tell of is that of the tree
-harms_are : (roots : Roots) → AreApart roots → (tree : Tree) → least (flat_map (harm_at roots tree) (dkms_entries roots tree)) ≡ hurt roots tree
+harms_are : (roots : Roots) → AreApart roots → (tree : Tree) → least (flat_map (harm_at roots tree) (store_entries roots tree)) ≡ hurt roots tree
 unfolding hurt
 harms_are roots apart tree = ap least (sym (harms_told roots apart tree))
 
@@ -80,12 +78,12 @@ refusal_of_all : (roots : Roots) → AreApart roots → (tree : Tree) (reading :
     → first_refusal reading.notes.hurt reading.walk.over ≡ store_refusal roots tree
 refusal_of_all roots apart tree reading is none =
     let walk_over : (walked LIMITS tree (is_private roots) roots.dkms).over ≡ None = sym (ap (λ (w : Walk). w.over) is.walk) ∙ none in
-    let met : reading.walk.met ≡ map (met_at tree) (dkms_entries roots tree) = ap (λ (w : Walk). w.met) is.walk ∙ met_all LIMITS tree (is_private roots) roots.dkms walk_over in
-    let paths : paths_met reading.walk.met ++ entries_over roots tree reading.walk.over ≡ dkms_entries roots tree =
-    ap (λ o. paths_met reading.walk.met ++ entries_over roots tree o) none ∙ append-nil (paths_met reading.walk.met) ∙ ap paths_met met ∙ paths_of_met tree (dkms_entries roots tree) in
+    let met : reading.walk.met ≡ map (met_at tree) (store_entries roots tree) = ap (λ (w : Walk). w.met) is.walk ∙ met_all LIMITS tree (is_private roots) roots.dkms walk_over in
+    let paths : paths_met reading.walk.met ++ entries_over roots tree reading.walk.over ≡ store_entries roots tree =
+    ap (λ o. paths_met reading.walk.met ++ entries_over roots tree o) none ∙ append-nil (paths_met reading.walk.met) ∙ ap paths_met met ∙ paths_of_met tree (store_entries roots tree) in
     let harm : reading.notes.hurt ≡ hurt roots tree =
     ap (λ (n : Notes). n.hurt) is.notes ∙ ap (λ p. least (flat_map (harm_at roots tree) p)) paths ∙ harms_are roots apart tree in
-    ap (λ h. first_refusal h reading.walk.over) harm ∙ ap (λ (w : Walk). first_refusal (hurt roots tree) w.over) is.walk
+    ap (λ h. first_refusal h reading.walk.over) harm ∙ ap (λ (w : Walk). first_refusal (hurt roots tree) w.over) is.walk ∙ ap (first_refusal (hurt roots tree)) (over_is roots tree)
 
 -- of a walk that ended at a limit
 refusal_at_limit : (roots : Roots) → AreApart roots → (tree : Tree) (reading : Reading) (far : Path) → IsReading roots tree reading → reading.walk.over ≡ Some far
@@ -99,7 +97,7 @@ refusal_at_limit roots apart tree reading far is found =
     let harm : reading.notes.hurt ≡ least (flat_map (harm_at roots tree) (front.before ++ version_entries roots tree far)) =
     ap (λ (n : Notes). n.hurt) is.notes ∙ ap (λ p. least (flat_map (harm_at roots tree) p)) paths in
     ap (λ o. first_refusal reading.notes.hurt o) found ∙ ap (λ h. first_refusal h (Some far)) harm
-    ∙ far_harms roots tree apart front.before far front.behind front.split ∙ ap (first_refusal (hurt roots tree)) (sym walk_over)
+    ∙ far_harms roots tree apart front.before far front.behind front.split ∙ ap (first_refusal (hurt roots tree)) (sym walk_over ∙ over_is roots tree)
 
 pub refusal_is : (roots : Roots) → AreApart roots → (tree : Tree) (reading : Reading) → IsReading roots tree reading
     → first_refusal reading.notes.hurt reading.walk.over ≡ store_refusal roots tree
@@ -185,7 +183,7 @@ pub over_stands : (roots : Roots) (tree : Tree) (walk : Walk) (far : Path) → w
     → is_some (node_at tree far) ≡ true
 over_stands roots tree walk far is found =
     let front = met_before LIMITS tree (is_private roots) roots.dkms far (sym (ap (λ (w : Walk). w.over) is) ∙ found) in
-    let there : is_in far (dkms_entries roots tree) = subst (is_in far) (sym front.split) (among front.before front.behind) in
+    let there : is_in far (store_entries roots tree) = subst (is_in far) (sym front.split) (among front.before front.behind) in
     standing tree far ∙ third (not (is_private roots far)) (is_below far roots.dkms) (list_any (same_path far) (keys tree)) (sym (in_entries tree (is_private roots) roots.dkms far) ∙ there)
   where
     among : (before behind : List Path) → is_in far (before ++ far ∷ behind)

@@ -6,9 +6,8 @@ use Rattle.std.specs.Ordering.{is_lt, ordering_then, nat_cmp}
 use Rattle.std.specs.Cmp.Lexicographic.{slice_cmp}
 use Rattle.std.specs.declared.cmp.Ordering.{Ordering}
 use Rattle.kb_world.specs.Path.{Path, path_cmp}
-use Rattle.kb_world.specs.Store.{same_key}
+use Rattle.kb_world.specs.Store.{same_key, says}
 use Rattle.kb_world.specs.Targets.{last_name}
-use Rattle.kb_world.specs.Boxes.{key_of}
 use Rattle.kb_world.specs.declared.job.Key.{Key}
 use Rattle.kb_world.specs.declared.job.Spot.{Spot}
 use Rattle.kb_store.specs.declared.store.Build.{Build}
@@ -48,31 +47,27 @@ kept_in store word spot = unwrap_or (option_map (λ chest. chest.files) (find (i
 abbrev pub is_build : Key → Spot → Build → Bool
 is_build key spot build = same_key build.key key && same_spot build.spot spot
 
--- the build of the version that is installed
-abbrev pub is_build_of : Installation → Build → Bool
-is_build_of installation build = is_build (key_of installation.module installation.version) installation.spot build
-
--- the places of the first build of the version that is installed, none where there is no build
-abbrev pub places_of : Store → Installation → List Path
-places_of store installation = unwrap_or (option_map (λ build. build.targets) (find (is_build_of installation) store.builds)) []
-
 -- the places with this last name, each with the module
 abbrev pub claims_at : List ℕ → List ℕ → List Path → List (Path × List ℕ)
 claims_at file word places = map (λ place. (place, word)) (filter (λ place. bytes_eq (last_name place) file) places)
 
--- an installation for the kernel, but not of this module for this architecture
-abbrev pub is_other : List ℕ → List ℕ → List ℕ → Installation → Bool
-is_other kernel word arch installation = bytes_eq installation.spot.kernel kernel && not (bytes_eq installation.module word && bytes_eq installation.spot.arch arch)
+-- a build for the kernel, but not of this module for this architecture
+abbrev pub is_other : List ℕ → List ℕ → List ℕ → Build → Bool
+is_other kernel word arch build = bytes_eq build.spot.kernel kernel && not (bytes_eq build.key.module word && bytes_eq build.spot.arch arch)
 
--- what an installation claims
-abbrev pub claims_of : Store → List ℕ → List ℕ → List ℕ → List ℕ → Installation → List (Path × List ℕ)
-claims_of store kernel file word arch installation =
-    cond (is_other kernel word arch installation) (claims_at file installation.module (places_of store installation)) []
+-- the build is that of the version that is installed of its module for its spot
+abbrev pub is_installed_build : Store → Build → Bool
+is_installed_build store build = says build.key.version (installed_in store build.key.module build.spot)
 
--- The claims to a file of a kernel by others than this module for this architecture: for each installation of such, the
--- places of its build that have the file's name.
+-- what a build claims
+abbrev pub claims_of : Store → List ℕ → List ℕ → List ℕ → List ℕ → Build → List (Path × List ℕ)
+claims_of store kernel file word arch build =
+    cond (is_other kernel word arch build && is_installed_build store build) (claims_at file build.key.module build.targets) []
+
+-- The claims to a file of a kernel by others than this module for this architecture: for each installed build of such,
+-- its places that have the file's name.
 abbrev pub claims_in : Store → List ℕ → List ℕ → List ℕ → List ℕ → List (Path × List ℕ)
-claims_in store kernel file word arch = flat_map (claims_of store kernel file word arch) store.installed
+claims_in store kernel file word arch = flat_map (claims_of store kernel file word arch) store.builds
 
 -- by the order of paths of the places, and two at one place by bytes of the module
 abbrev pub claim_cmp : Path × List ℕ → Path × List ℕ → Ordering

@@ -5,7 +5,7 @@ use Rattle.kb_world.specs.Path.{Path, is_under}
 use Rattle.kb_world.specs.declared.roots.Roots.{Roots}
 use Rattle.kb_world.specs.declared.tree.Kind.{Kind}
 use Rattle.kb_world.specs.declared.tree.Kind.TheVariants as kind
-use Rattle.kb_store.specs.Contents.{below_dkms, chest_by}
+use Rattle.kb_store.specs.Contents.{at_place, chest_by}
 use Rattle.kb_store.specs.Walking.{is_dir_kind}
 use Rattle.kb_store.specs.declared.store.Chest.{Chest}
 use Rattle.kb_store.specs.declared.walking.Met.{Met}
@@ -24,7 +24,7 @@ files_in directory (met ∷ rest) =
 
 -- the chest whose directory was met, before these
 abbrev pub chest_met : Roots → Met → List Met → Option Chest
-chest_met roots met rest = cond (is_dir_kind met.kind) (below_dkms roots (chest_by (λ word spot. Some (files_in met.path rest))) met.path) None
+chest_met roots met rest = cond (is_dir_kind met.kind) (at_place roots (chest_by (λ word spot. Some (files_in met.path rest))) met.path) None
 
 -- the chests of what was met
 abbrev pub chests_met : Roots → List Met → List Chest

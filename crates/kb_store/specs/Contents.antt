@@ -1,26 +1,28 @@
 -- What a store holds, as lists in the order of paths. After the tool dkms, and this project's own.
-use Rattle.std.specs.Prelude.{ℕ, Bool, true, ◌&&◌, cond, List, [], ◌∷◌, length, drop, map, Option, Some, None, codes, bytes_eq, filter_map, option_and_then}
+use Rattle.std.specs.Prelude.{ℕ, Bool, true, ◌&&◌, cond, List, [], ◌∷◌, map, Option, Some, None, filter_map, option_and_then}
 use Rattle.std.specs.Option.{option_map}
 use Rattle.std.specs.List.{list_all}
 use Rattle.std.specs.Ordering.{is_lt}
 use Rattle.std.specs.FinMap.{keys}
-use Rattle.kb_world.specs.Names.{is_word}
-use Rattle.kb_world.specs.Path.{Path, path_cmp, is_under}
+use Rattle.kb_world.specs.Path.{Path, path_cmp}
+use Rattle.kb_world.specs.StorePath.{store_path}
 use Rattle.kb_world.specs.Tree.{Tree, node_at, is_dir}
-use Rattle.kb_world.specs.Store.{is_key, added}
-use Rattle.kb_world.specs.Boxes.{is_spot, boxed, installed, spot_of_link, chest_path, key_of}
+use Rattle.kb_world.specs.Store.{added}
+use Rattle.kb_world.specs.Boxes.{boxed, installed, chest_path}
 use Rattle.kb_world.specs.Steps.{kept_files}
 use Rattle.kb_world.specs.declared.roots.Roots.{Roots}
 use Rattle.kb_world.specs.declared.job.Key.{Key}
 use Rattle.kb_world.specs.declared.job.Spot.{Spot}
+use Rattle.kb_world.specs.declared.store_path.StorePath.{StorePath}
+use Rattle.kb_world.specs.declared.store_path.StorePath.TheVariants.{Targets, KernelLink, InChest}
 use Rattle.kb_store.specs.declared.store.Build.{Build}
 use Rattle.kb_store.specs.declared.store.Installation.{Installation}
 use Rattle.kb_store.specs.declared.store.Chest.{Chest}
 use Rattle.kb_store.specs.declared.store.Store.{Store}
 
--- what a path below the dkms root gives, by its names below it
-abbrev pub below_dkms : {T : Type 0} → Roots → (Path → Option T) → Path → Option T
-below_dkms roots by path = cond (is_under path roots.dkms) (by (drop (length roots.dkms) path)) None
+-- what a path gives, by what it is for
+abbrev pub at_place : {T : Type 0} → Roots → (StorePath → Option T) → Path → Option T
+at_place roots by path = option_and_then by (store_path roots path)
 
 -- ---- builds
 
@@ -28,24 +30,13 @@ abbrev pub build_of : Key → Spot → List Path → Build
 build_of key spot places = record { key = key; spot = spot; targets = places }
 
 -- the build whose file `targets` would stand there, where it has these places
-abbrev pub build_by : (Key → Spot → Option (List Path)) → Path → Option Build
-build_by places (word ∷ version ∷ kernel ∷ arch ∷ name ∷ []) =
-    let key = key_of word version in
-    let spot : Spot = record { kernel = kernel; arch = arch } in
-    cond (is_key key && is_spot spot && bytes_eq name (codes "targets")) (option_map (build_of key spot) (places key spot)) None
-build_by places (word ∷ version ∷ kernel ∷ arch ∷ name ∷ more ∷ rest) = None
-build_by places (word ∷ version ∷ kernel ∷ arch ∷ []) = None
-build_by places (word ∷ version ∷ kernel ∷ []) = None
-build_by places (word ∷ version ∷ []) = None
-build_by places (word ∷ []) = None
-build_by places [] = None
+abbrev pub build_by : (Key → Spot → Option (List Path)) → StorePath → Option Build
+build_by places (Targets key spot) = option_map (build_of key spot) (places key spot)
+build_by places other = None
 
--- the build whose `targets` stands at the path, of an added version that has all its files
-abbrev pub build_at : Roots → Tree → Path → Option Build
-build_at roots store = below_dkms roots (build_by (boxed roots store))
-
+-- the builds of added versions that have all their files
 abbrev pub builds : Roots → Tree → List Build
-builds roots store = filter_map (build_at roots store) (keys store)
+builds roots store = filter_map (at_place roots (build_by (boxed roots store))) (keys store)
 
 -- ---- installed versions
 
@@ -53,47 +44,33 @@ abbrev pub installation_of : List ℕ → Spot → List ℕ → Installation
 installation_of word spot version = record { «module» = word; spot = spot; version = version }
 
 -- the installation whose link would stand there, where it says this version
-abbrev pub installation_by : (List ℕ → Spot → Option (List ℕ)) → Path → Option Installation
-installation_by version (word ∷ name ∷ []) =
-    cond (is_word word) (option_and_then (λ spot. option_map (installation_of word spot) (version word spot)) (spot_of_link name)) None
-installation_by version (word ∷ name ∷ more ∷ rest) = None
-installation_by version (word ∷ []) = None
-installation_by version [] = None
-
--- the installed version whose link stands at the path
-abbrev pub installation_at : Roots → Tree → Path → Option Installation
-installation_at roots store = below_dkms roots (installation_by (installed roots store))
+abbrev pub installation_by : (List ℕ → Spot → Option (List ℕ)) → StorePath → Option Installation
+installation_by version (KernelLink word spot) = option_map (installation_of word spot) (version word spot)
+installation_by version other = None
 
 abbrev pub installations : Roots → Tree → List Installation
-installations roots store = filter_map (installation_at roots store) (keys store)
+installations roots store = filter_map (at_place roots (installation_by (installed roots store))) (keys store)
 
 -- ---- kept files
+
+abbrev pub chest_of : List ℕ → Spot → List Path → Chest
+chest_of word spot paths = record { «module» = word; spot = spot; files = paths }
+
+-- the chest whose directory would stand there, where it has these files
+abbrev pub chest_by : (List ℕ → Spot → Option (List Path)) → StorePath → Option Chest
+chest_by files (InChest word spot []) = option_map (chest_of word spot) (files word spot)
+chest_by files other = None
 
 -- the paths of the kept files below the kernel's directory
 abbrev pub kept_paths : Roots → Tree → List ℕ → Spot → List Path
 kept_paths roots store word spot = map (λ item. item.0) (kept_files roots store word spot)
 
-abbrev pub chest_by : (List ℕ → Spot → Option (List Path)) → Path → Option Chest
-chest_by files (word ∷ name ∷ kernel ∷ arch ∷ []) =
-    let spot : Spot = record { kernel = kernel; arch = arch } in
-    cond (is_word word && bytes_eq name (codes "original_module") && is_spot spot)
-    (option_map (λ paths. record { «module» = word; spot = spot; files = paths }) (files word spot)) None
-chest_by files (word ∷ name ∷ kernel ∷ arch ∷ more ∷ rest) = None
-chest_by files (word ∷ name ∷ kernel ∷ []) = None
-chest_by files (word ∷ name ∷ []) = None
-chest_by files (word ∷ []) = None
-chest_by files [] = None
-
 -- the kept files of a chest, where its directory is there
 abbrev pub chest_files : Roots → Tree → List ℕ → Spot → Option (List Path)
 chest_files roots store word spot = cond (is_dir (node_at store (chest_path roots word spot))) (Some (kept_paths roots store word spot)) None
 
--- the chest whose directory stands at the path
-abbrev pub chest_at : Roots → Tree → Path → Option Chest
-chest_at roots store = below_dkms roots (chest_by (chest_files roots store))
-
 abbrev pub chest_list : Roots → Tree → List Chest
-chest_list roots store = filter_map (chest_at roots store) (keys store)
+chest_list roots store = filter_map (at_place roots (chest_by (chest_files roots store))) (keys store)
 
 -- ---- the order
 

@@ -1,6 +1,6 @@
 -- What each path below the dkms root tells of a store without damage, and which damaged paths it tells of. This
 -- project's own.
-use Rattle.std.specs.Prelude.{ℕ, cond, not, List, [], ◌∷◌, ◌++◌, length, drop, map, filter, flat_map, filter_map, Option, Some, None, is_some, fold}
+use Rattle.std.specs.Prelude.{ℕ, Bool, ◌&&◌, ◌||◌, nat_lt, cond, not, List, [], ◌∷◌, ◌++◌, length, drop, map, filter, flat_map, filter_map, Option, Some, None, is_some, fold}
 use Rattle.std.specs.Ordering.{is_lt}
 use Rattle.kb_world.specs.Path.{Path, path_cmp, is_under}
 use Rattle.kb_world.specs.Tree.{Tree, node_at, is_file}
@@ -11,7 +11,9 @@ use Rattle.kb_world.specs.Damage.{least, harm_at, unless_sound}
 use Rattle.kb_world.specs.declared.roots.Roots.{Roots}
 use Rattle.kb_world.specs.declared.job.Key.{Key}
 use Rattle.kb_world.specs.declared.job.Spot.{Spot}
-use Rattle.kb_store.specs.Contents.{below_dkms, build_by, build_of, installation_by, installation_of}
+use Rattle.kb_world.specs.declared.store_path.StorePath.{StorePath}
+use Rattle.kb_world.specs.declared.store_path.StorePath.TheVariants.{SourceLink, Targets, KernelLink}
+use Rattle.kb_store.specs.Contents.{at_place, build_by, build_of, installation_by, installation_of}
 use Rattle.kb_store.specs.Walking.{entries}
 use Rattle.kb_store.specs.declared.store.Build.{Build}
 use Rattle.kb_store.specs.declared.store.Installation.{Installation}
@@ -19,11 +21,15 @@ use Rattle.kb_store.specs.declared.notes.Notes.{Notes}
 
 -- the build whose `targets` stands at the path, wherever that is in its format
 abbrev pub told_build : Roots → Tree → Path → Option Build
-told_build roots tree = below_dkms roots (build_by (places_at roots tree))
+told_build roots tree = at_place roots (build_by (places_at roots tree))
+
+-- the version that a module's link for a spot says, where that is built
+abbrev pub linked : Roots → Tree → List ℕ → Spot → Option (List ℕ)
+linked roots tree word spot = linked_at roots tree (kernel_link_path roots word spot) word spot
 
 -- the installation whose link stands at the path, wherever that is a link to a build
 abbrev pub told_installation : Roots → Tree → Path → Option Installation
-told_installation roots tree = below_dkms roots (installation_by (λ word spot. linked_at roots tree (kernel_link_path roots word spot) word spot))
+told_installation roots tree = at_place roots (installation_by (linked roots tree))
 
 abbrev pub list_of : {A : Type 0} → Option A → List A
 list_of None = []
@@ -68,12 +74,20 @@ version_within roots [] = None
 abbrev pub version_above : Roots → Path → Option Path
 version_above roots path = cond (is_under path roots.dkms) (version_within roots (drop (length roots.dkms) path)) None
 
--- the paths below a directory that aren't private, where there is one
+-- more than three names below a directory
+abbrev pub is_deep : Path → Path → Bool
+is_deep directory path = is_under path directory && nat_lt 3 (length (drop (length directory) path))
+
+-- private, or deeper below a version than anything that tells of a store
+abbrev pub is_far : Roots → Path → Path → Bool
+is_far roots directory path = is_private roots path || is_deep directory path
+
+-- the paths up to three names below a directory that aren't private, where there is one
 abbrev pub entries_if : Roots → Tree → Option Path → List Path
 entries_if roots tree None = []
-entries_if roots tree (Some directory) = entries tree (is_private roots) directory
+entries_if roots tree (Some directory) = entries tree (is_far roots directory) directory
 
--- the paths below the version that the path lies below
+-- those of the version that the path lies below
 abbrev pub version_entries : Roots → Tree → Path → List Path
 version_entries roots tree path = entries_if roots tree (version_above roots path)
 
@@ -91,14 +105,12 @@ abbrev pub source_noted : Roots → Tree → Notes → Key → Notes
 source_noted roots tree notes key = cond (is_added roots key tree) (record notes { added = notes.added ++ key ∷ [] }) (harmed notes (link_path roots key ∷ []))
 
 -- what stands at a spot's link is noted, where it says this version
-abbrev pub version_noted : Notes → Path → List ℕ → Spot → Option (List ℕ) → Notes
-version_noted notes path word spot None = harmed notes (path ∷ [])
-version_noted notes path word spot (Some version) = record notes { installed = notes.installed ++ installation_of word spot version ∷ [] }
+abbrev pub version_noted : Roots → Notes → List ℕ → Spot → Option (List ℕ) → Notes
+version_noted roots notes word spot None = harmed notes (kernel_link_path roots word spot ∷ [])
+version_noted roots notes word spot (Some version) = record notes { installed = notes.installed ++ installation_of word spot version ∷ [] }
 
--- what stands at the path is noted, where that is the link of a spot
-abbrev pub link_noted : Roots → Tree → Notes → Path → List ℕ → Option Spot → Notes
-link_noted roots tree notes path word None = notes
-link_noted roots tree notes path word (Some spot) = version_noted notes path word spot (linked_at roots tree path word spot)
+abbrev pub link_noted : Roots → Tree → Notes → List ℕ → Spot → Notes
+link_noted roots tree notes word spot = version_noted roots notes word spot (linked roots tree word spot)
 
 -- the modules' files that are no files are noted
 abbrev pub files_noted : Roots → Tree → Notes → Key → Spot → List Path → Notes
@@ -119,3 +131,10 @@ absence_noted roots tree notes key = harmed notes (unless_sound (is_some (node_a
 -- what stands at a build's `targets` is noted
 abbrev pub box_noted : Roots → Tree → Notes → Key → Spot → Notes
 box_noted roots tree notes key spot = places_noted roots tree (absence_noted roots tree notes key) key spot (places_at roots tree key spot)
+
+-- what stands at the path that is for this is noted
+abbrev pub place_noted : Roots → Tree → Notes → StorePath → Notes
+place_noted roots tree notes (SourceLink key) = source_noted roots tree notes key
+place_noted roots tree notes (Targets key spot) = box_noted roots tree notes key spot
+place_noted roots tree notes (KernelLink word spot) = link_noted roots tree notes word spot
+place_noted roots tree notes other = notes

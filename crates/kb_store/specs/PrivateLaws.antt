@@ -1,13 +1,18 @@
 -- What is below a private path is private.
-use Rattle.std.proofs.Common.{◌≡◌, Bool, true, false, ◌&&◌, ◌||◌, List, [], ◌∷◌, ◌++◌, length, drop, refl, sym, ap, ◌∙◌, append_assoc}
+use Rattle.std.proofs.Common.{◌≡◌, ◌<◌, ◌≤◌, ◌+◌, ℕ, suc, Bool, true, false, ◌&&◌, ◌||◌, List, [], ◌∷◌, ◌++◌, length, drop, nat_lt, Option, Some, None, codes, refl, sym, ap, ◌∙◌, append_assoc, arith, length-append}
 use Rattle.std.specs.List.{list_any}
 use Rattle.std.specs.Cmp.{first_so, second_so}
 use Rattle.std.specs.Cmp.Derive.{both_true}
+use Rattle.std.proofs.lemmas.Bool.{leb-true, le-leb}
 use Rattle.kb_world.specs.Path.{Path, is_under}
-use Rattle.kb_world.specs.Public.{is_private, is_scratch, private_places}
+use Rattle.kb_world.specs.Public.{is_private, private_places}
+use Rattle.kb_world.specs.StorePath.{store_path, path_of, is_in_scratch}
 use Rattle.kb_world.specs.declared.roots.Roots.{Roots}
-use Rattle.kb_world.proofs.PathLaws.{under-append, drop-front}
-use Rattle.kb_world.proofs.DamageLaws.{under-split}
+use Rattle.kb_world.specs.declared.store_path.StorePath.{StorePath}
+use Rattle.kb_world.specs.declared.store_path.StorePath.TheVariants.{SourceLink, InScratch, Targets, InBox, KernelLink, InChest}
+use Rattle.kb_world.proofs.PathLaws.{under-append, under-split, drop-front}
+use Rattle.kb_world.proofs.StorePathLaws.{place_back, place_there}
+use Rattle.kb_store.specs.Notes.{is_deep, is_far}
 
 under_more : (path directory more : Path) → is_under path directory ≡ true → is_under (path ++ more) directory ≡ true
 under_more path directory more h =
@@ -18,33 +23,45 @@ or_right : (a b : Bool) → b ≡ true → (a || b) ≡ true
 or_right true b e = refl
 or_right false b e = e
 
+-- one of two, each of which leads on
+either_more : (a b c d : Bool) → (a ≡ true → c ≡ true) → (b ≡ true → d ≡ true) → (a || b) ≡ true → (c || d) ≡ true
+either_more true b c d first second h = ap (λ x. x || d) (first refl)
+either_more false b c d first second h = or_right c d (second h)
+
 any_more : (path more : Path) (places : List Path) → list_any (is_under path) places ≡ true → list_any (is_under (path ++ more)) places ≡ true
 any_more path more [] h = h
-any_more path more (place ∷ places) h = by (is_under path place) refl (λ later. any_more path more places later)
+any_more path more (place ∷ places) h =
+    either_more (is_under path place) (list_any (is_under path) places) (is_under (path ++ more) place) (list_any (is_under (path ++ more)) places) (under_more path place more) (any_more path more places) h
+
+-- what is below a path in a scratch tree is in it
+in_scratch_more : (roots : Roots) (path more : Path) → is_in_scratch (store_path roots path) ≡ true → is_in_scratch (store_path roots (path ++ more)) ≡ true
+in_scratch_more roots path more h = by (store_path roots path) refl h
   where
-    by : (b : Bool) → is_under path place ≡ b → (list_any (is_under path) places ≡ true → list_any (is_under (path ++ more)) places ≡ true) → (is_under (path ++ more) place || list_any (is_under (path ++ more)) places) ≡ true
-    by true e rest = ap (λ b. b || list_any (is_under (path ++ more)) places) (under_more path place more e)
-    by false e rest = or_right (is_under (path ++ more) place) (list_any (is_under (path ++ more)) places) (rest (sym (ap (λ b. b || list_any (is_under path) places) e) ∙ h))
+    untrue : false ≡ true → ⊥
+    untrue e = cc
 
-scratch_more : (names more : Path) → is_scratch names ≡ true → is_scratch (names ++ more) ≡ true
-scratch_more [] more h = let impossible : true ≡ false = sym h in cc
-scratch_more (word ∷ []) more h = let impossible : true ≡ false = sym h in cc
-scratch_more (word ∷ version ∷ []) more h = let impossible : true ≡ false = sym h in cc
-scratch_more (word ∷ version ∷ name ∷ rest) more h = h
-
-in_scratch_more : (path dkms more : Path) → (is_under path dkms && is_scratch (drop (length dkms) path)) ≡ true → (is_under (path ++ more) dkms && is_scratch (drop (length dkms) (path ++ more))) ≡ true
-in_scratch_more path dkms more h =
-    let under = first_so (is_under path dkms) (is_scratch (drop (length dkms) path)) h in
-    let rest = drop (length dkms) path in
-    let tail : drop (length dkms) (path ++ more) ≡ rest ++ more =
-    ap (λ p. drop (length dkms) (p ++ more)) (under-split path dkms under) ∙ ap (drop (length dkms)) (append_assoc dkms rest more) ∙ drop-front dkms (rest ++ more) in
-    both_true (under_more path dkms more under) (ap is_scratch tail ∙ scratch_more rest more (second_so (is_under path dkms) (is_scratch rest) h))
+    by : (told : Option StorePath) → store_path roots path ≡ told → is_in_scratch told ≡ true → is_in_scratch (store_path roots (path ++ more)) ≡ true
+    by (Some (InScratch key rest)) e h =
+        let is = place_back roots path (InScratch key rest) e in
+        let longer : path ++ more ≡ path_of roots (InScratch key (rest ++ more)) =
+        ap (λ p. p ++ more) is.is ∙ append_assoc roots.dkms (key.module ∷ key.version ∷ codes "build" ∷ rest) more in
+        ap (λ p. is_in_scratch (store_path roots p)) longer ∙ ap is_in_scratch (place_there roots (InScratch key (rest ++ more)) is.ruled)
+    by other e h = absurd (untrue h)
 
 pub private_below : (roots : Roots) (path more : Path) → is_private roots path ≡ true → is_private roots (path ++ more) ≡ true
-private_below roots path more h = by (list_any (is_under path) (private_places roots)) refl
-  where
-    by : (b : Bool) → list_any (is_under path) (private_places roots) ≡ b → is_private roots (path ++ more) ≡ true
-    by true e = ap (λ b. b || is_under (path ++ more) roots.dkms && is_scratch (drop (length roots.dkms) (path ++ more))) (any_more path more (private_places roots) e)
-    by false e =
-        or_right (list_any (is_under (path ++ more)) (private_places roots)) (is_under (path ++ more) roots.dkms && is_scratch (drop (length roots.dkms) (path ++ more)))
-        (in_scratch_more path roots.dkms more (sym (ap (λ b. b || is_under path roots.dkms && is_scratch (drop (length roots.dkms) path)) e) ∙ h))
+private_below roots path more =
+    either_more (list_any (is_under path) (private_places roots)) (is_in_scratch (store_path roots path)) (list_any (is_under (path ++ more)) (private_places roots)) (is_in_scratch (store_path roots (path ++ more)))
+    (any_more path more (private_places roots)) (in_scratch_more roots path more)
+
+deep_more : (directory path more : Path) → is_deep directory path ≡ true → is_deep directory (path ++ more) ≡ true
+deep_more directory path more h =
+    let under = first_so (is_under path directory) (nat_lt 3 (length (drop (length directory) path))) h in
+    let long = leb-true 4 (length (drop (length directory) path)) (second_so (is_under path directory) (nat_lt 3 (length (drop (length directory) path))) h) in
+    let rest = drop (length directory) path in
+    let tail : drop (length directory) (path ++ more) ≡ rest ++ more =
+    ap (λ p. drop (length directory) (p ++ more)) (under-split path directory under) ∙ ap (drop (length directory)) (append_assoc directory rest more) ∙ drop-front directory (rest ++ more) in
+    both_true (under_more path directory more under) (le-leb 4 (length (drop (length directory) (path ++ more))) (omega (arith, ap length tail, length-append rest more, long)))
+
+pub far_below : (roots : Roots) (directory path more : Path) → is_far roots directory path ≡ true → is_far roots directory (path ++ more) ≡ true
+far_below roots directory path more =
+    either_more (is_private roots path) (is_deep directory path) (is_private roots (path ++ more)) (is_deep directory (path ++ more)) (private_below roots path more) (deep_more directory path more)

@@ -1,8 +1,9 @@
 -- What a reading of the store answers. This project's own.
-use Rattle.std.specs.Prelude.{◌≡◌, cond, List, [], ◌++◌, map, filter_map, Option, Some, None, Result, Ok, Err}
+use Rattle.std.specs.Prelude.{◌≡◌, ◌+◌, Bool, ◌&&◌, nat_lt, length, slice_get, cond, List, [], ◌++◌, map, filter_map, Option, Some, None, Result, Ok, Err}
+use Rattle.std.specs.List.{find}
 use Rattle.std.specs.Ordering.{is_lt}
 use Rattle.kb_world.specs.Path.{Path, path_cmp}
-use Rattle.kb_world.specs.Tree.{Tree}
+use Rattle.kb_world.specs.Tree.{Tree, node_at, is_dir}
 use Rattle.kb_world.specs.Public.{is_private}
 use Rattle.kb_world.specs.Damage.{hurt}
 use Rattle.kb_world.specs.declared.roots.Roots.{Roots}
@@ -10,16 +11,24 @@ use Rattle.kb_world.specs.declared.refusal.Refusal.{Refusal}
 use Rattle.kb_world.specs.declared.refusal.Refusal.TheVariants as refusal
 use Rattle.kb_world.specs.Store.{added_at}
 use Rattle.kb_store.specs.Walking.{walked, LIMITS, entries, met_at}
-use Rattle.kb_store.specs.Notes.{notes_of, told_build, told_installation, version_entries}
+use Rattle.kb_store.specs.Notes.{first_of_two, notes_of, told_build, told_installation, version_entries}
 use Rattle.kb_store.specs.Contents.{store_of}
 use Rattle.kb_store.specs.declared.notes.Notes.{Notes}
 use Rattle.kb_store.specs.declared.read.Reading.{Reading}
 use Rattle.kb_store.specs.declared.store.Store.{Store}
 use Rattle.kb_store.specs.declared.walking.Met.{Met}
 
--- the first path below the dkms root at which a walk passes a limit
+-- the entries of the dkms root in the order of paths, without private ones
+abbrev pub store_entries : Roots → Tree → List Path
+store_entries roots store = entries store (is_private roots) roots.dkms
+
+-- a directory more than 64 names below the dkms root
+abbrev pub is_too_deep : Roots → Tree → Path → Bool
+is_too_deep roots store path = nat_lt (length roots.dkms + 64) (length path) && is_dir (node_at store path)
+
+-- what passes a limit: the entry with the number 65,537 or the first directory that is too deep, whichever stands first
 abbrev pub over : Roots → Tree → Option Path
-over roots store = (walked LIMITS store (is_private roots) roots.dkms).over
+over roots store = first_of_two (slice_get (store_entries roots store) 65536) (find (is_too_deep roots store) (store_entries roots store))
 
 -- The refusal whose path stands first, of the first damaged path and the one that passes a limit. At one path it is
 -- the limit.

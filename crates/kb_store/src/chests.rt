@@ -1,18 +1,18 @@
 // The chests of a store, read from what a walk met.
-ghost use Rattle.std.specs.Prelude.{◌≡◌, ◌&&◌, ℕ, List, Option, Some, cond, None, ◌∷◌, [], ◌++◌, IfOk, IsTrue, OnOk, bytes_eq, codes, drop, length, map, filter_map};
-ghost use Rattle.kb_world.specs.Names as rule;
+ghost use Rattle.std.specs.Prelude.{◌≡◌, ◌++◌, ℕ, List, Some, IfOk, OnOk, map, filter_map};
 ghost use Rattle.kb_world.specs.Path.{IsPath};
 ghost use Rattle.kb_world.specs.Public.{is_private};
 ghost use Rattle.kb_world.specs.Roots.{AreApart};
 ghost use Rattle.kb_world.specs.Tree.{Tree};
 ghost use Rattle.kb_store.specs.Chests as told;
-ghost use Rattle.kb_store.specs.Contents.{chest_at, chest_by};
+ghost use Rattle.kb_store.specs.Contents.{at_place, chest_by, chest_files};
+ghost use Rattle.kb_store.specs.Notes.{list_of};
 ghost use Rattle.kb_store.specs.Walking.{entries, met_at};
 
-use crate::place::{Places, RelPath};
+use crate::place::Places;
 use crate::store::Chest;
 use crate::walking::Met;
-use kb_world::{Kind, Path, Roots, Sequence, Spot, Text, is_arch, is_kernel, is_word};
+use kb_world::{Kind, Path, RelPath, Roots, Sequence, StorePath, Text};
 use std::alloc::{AllocError, Global};
 
 // The path with these names.
@@ -41,34 +41,23 @@ fn files_in(alloc: Global, directory: &Path, met: &[Met]) -> Result<Places, Allo
     Ok(files)
 }
 
-// Whether a directory with these names below the dkms root is that of a chest.
-fn is_chest(module: &Text, name: &Text, kernel: &Text, arch: &Text) -> bool
-    ensures { result ≡ (rule.is_word «module».now && bytes_eq name.now (codes "original_module") && (rule.is_kernel kernel.now && rule.is_arch arch.now)) }
-{
-    is_word(module.as_str())
-        && name.as_str() == "original_module"
-        && (is_kernel(kernel.as_str()) && is_arch(arch.as_str()))
-}
-
-// The chest whose directory has this path, and these names below the dkms root, and was met before these.
-fn named_chest(
+// The chest whose directory is for this and has this path, and was met before these.
+fn placed_chest(
     alloc: Global,
-    names: &[Text],
+    place: StorePath,
     path: &Path,
     rest: &[Met],
 ) -> Result<Option<Chest>, AllocError>
-    ensures { IfOk result (λ chest. chest ≡ chest_by (λ word spot. Some (told.files_in path.now rest.now)) names.now) }
+    ensures { IfOk result (λ chest. chest ≡ chest_by (λ word spot. Some (told.files_in path.now rest.now)) place) }
 {
-    match names {
-        [module, name, kernel, arch] => {
-            if is_chest(module, name, kernel, arch) {
+    match place {
+        StorePath::InChest(module, spot, names) => {
+            if names.names().is_empty() {
+                let files = files_in(alloc, path, rest)?;
                 Ok(Some(Chest {
-                    module: module.clone()?,
-                    spot: Spot {
-                        kernel: kernel.clone()?,
-                        arch: arch.clone()?,
-                    },
-                    files: files_in(alloc, path, rest)?,
+                    module,
+                    spot,
+                    files,
                 }))
             } else {
                 Ok(None)
@@ -90,9 +79,19 @@ fn chest_met(
     if !matches!(entry.kind, Kind::Dir) {
         return Ok(None);
     }
-    match entry.path.below(&roots.dkms) {
-        Some(names) => named_chest(alloc, names, &entry.path, rest),
+    match StorePath::of(alloc, roots, &entry.path)? {
+        Some(place) => placed_chest(alloc, place, &entry.path, rest),
         None => Ok(None),
+    }
+}
+
+// Adds the chest, if there is one.
+fn push_some(chests: &mut Sequence<Chest>, chest: Option<Chest>) -> Result<(), AllocError>
+    ensures { OnOk result (chests.new ≡ chests.old ++ list_of chest) }
+{
+    match chest {
+        Some(chest) => chests.push(chest),
+        None => Ok(()),
     }
 }
 
@@ -102,9 +101,8 @@ fn chests_met(alloc: Global, roots: &Roots, met: &[Met]) -> Result<Sequence<Ches
 {
     let mut chests = Sequence::new(alloc);
     for (i, entry) in met.iter().enumerate() {
-        if let Some(chest) = chest_met(alloc, roots, entry, &met[i + 1..])? {
-            chests.push(chest)?;
-        }
+        let chest = chest_met(alloc, roots, entry, &met[i + 1..])?;
+        push_some(&mut chests, chest)?;
     }
     Ok(chests)
 }
@@ -116,7 +114,7 @@ pub(crate) fn chests_of(
     met: &[Met],
 ) -> Result<Sequence<Chest>, AllocError>
     ensures { IfOk result (λ chests. AreApart roots.now → (tree : Tree) → met.now ≡ map (met_at tree) (entries tree (is_private roots.now) roots.now.dkms)
-        → chests ≡ filter_map (chest_at roots.now tree) (entries tree (is_private roots.now) roots.now.dkms)) }
+        → chests ≡ filter_map (at_place roots.now (chest_by (chest_files roots.now tree))) (entries tree (is_private roots.now) roots.now.dkms)) }
 {
     chests_met(alloc, roots, met)
 }

@@ -8,12 +8,11 @@ ghost use Rattle.kb_world.specs.Targets.{targets_of, is_place};
 ghost use Rattle.kb_world.specs.State.{Looks};
 ghost use Rattle.kb_world.specs.Store as store;
 ghost use Rattle.kb_world.specs.Boxes as boxes;
-ghost use Rattle.kb_world.specs.Boxes.{key_of};
+ghost use Rattle.kb_world.specs.StorePath.{is_key, is_spot};
 
-use crate::paths::{source_text, targets_path};
 use crate::place::Places;
 use crate::targets::read_targets;
-use kb_world::{Kind, Path, Roots, Spot, Text, World, WorldError, is_version};
+use kb_world::{Key, Kind, Path, Roots, Spot, Text, World, WorldError, is_version};
 use std::alloc::{AllocError, Global};
 
 /// The places that a file `targets` at the path tells; none where no file stands there, or one of another format.
@@ -56,19 +55,16 @@ pub fn is_added<W: World>(
     alloc: Global,
     world: &mut W,
     roots: &Roots,
-    path: &Path,
-    word: &Text,
-    version: &Text,
+    key: &Key,
 ) -> Result<bool, WorldError>
-    requires here { path.now ≡ store.link_path roots.now (key_of word.now version.now) }
-    requires named { IsTrue (store.is_key (key_of word.now version.now)) }
-    ensures told { IfOk result (λ added. ForSome (W.state world.old).tree (λ tree.
-        added ≡ store.is_added roots.now (key_of word.now version.now) tree)) }
+    requires { IsTrue (is_key key.now) }
+    ensures told { IfOk result (λ added. ForSome (W.state world.old).tree (λ tree. added ≡ store.is_added roots.now key.now tree)) }
     ensures same { Looks (W.state world.old) (W.state world.new) result }
 {
-    match link_at(alloc, world, path)? {
+    let path = roots.source_link(alloc, key)?;
+    match link_at(alloc, world, &path)? {
         Some(text) => {
-            let wanted = source_text(alloc, roots, word, version)?;
+            let wanted = roots.source_dir(alloc, key)?.text(alloc)?;
             Ok(text.as_str() == wanted.as_str())
         }
         None => Ok(false),
@@ -102,25 +98,29 @@ pub fn version_of(alloc: Global, spot: &Spot, text: &str) -> Result<Option<Text>
     }
 }
 
-/// The version that the link of a spot at the path says, where that is built for the spot.
+/// The version that a module's link for a spot says, where that is built for the spot.
 pub fn linked_at<W: World>(
     alloc: Global,
     world: &mut W,
     roots: &Roots,
-    path: &Path,
     word: &Text,
     spot: &Spot,
 ) -> Result<Option<Text>, WorldError>
     requires named { IsTrue (is_word word.now) }
-    requires spotted { IsTrue (boxes.is_spot spot.now) }
+    requires spotted { IsTrue (is_spot spot.now) }
     ensures told { IfOk result (λ version. ForSome (W.state world.old).tree (λ tree.
-        version ≡ boxes.linked_at roots.now tree path.now word.now spot.now)) }
+        version ≡ boxes.linked_at roots.now tree (boxes.kernel_link_path roots.now word.now spot.now) word.now spot.now)) }
     ensures same { Looks (W.state world.old) (W.state world.new) result }
 {
-    match said_at(alloc, world, path, spot)? {
+    let path = roots.kernel_link(alloc, word, spot)?;
+    match said_at(alloc, world, &path, spot)? {
         Some(version) => {
-            if is_built(alloc, world, roots, word, &version, spot)? {
-                Ok(Some(version))
+            let key = Key {
+                module: word.clone()?,
+                version,
+            };
+            if is_built(alloc, world, roots, &key, spot)? {
+                Ok(Some(key.version))
             } else {
                 Ok(None)
             }
@@ -152,16 +152,14 @@ fn is_built<W: World>(
     alloc: Global,
     world: &mut W,
     roots: &Roots,
-    word: &Text,
-    version: &Text,
+    key: &Key,
     spot: &Spot,
 ) -> Result<bool, WorldError>
-    requires named { IsTrue (store.is_key (key_of word.now version.now)) }
-    requires spotted { IsTrue (boxes.is_spot spot.now) }
-    ensures told { IfOk result (λ built. ForSome (W.state world.old).tree (λ tree.
-        built ≡ boxes.is_built roots.now tree (key_of word.now version.now) spot.now)) }
+    requires named { IsTrue (is_key key.now) }
+    requires spotted { IsTrue (is_spot spot.now) }
+    ensures told { IfOk result (λ built. ForSome (W.state world.old).tree (λ tree. built ≡ boxes.is_built roots.now tree key.now spot.now)) }
     ensures same { Looks (W.state world.old) (W.state world.new) result }
 {
-    let path = targets_path(alloc, roots, word, version, spot)?;
+    let path = roots.targets(alloc, key, spot)?;
     Ok(places_at(alloc, world, &path)?.is_some())
 }

@@ -5,9 +5,7 @@
 mod chests;
 mod entries;
 mod laws;
-mod links;
 mod notes;
-mod paths;
 mod place;
 mod private;
 mod read;
@@ -16,7 +14,7 @@ mod targets;
 mod walking;
 
 pub use laws::{a_store_tells_its_parts, the_lists_of_a_store_rise};
-pub use place::{Places, RelPath};
+pub use place::Places;
 pub use store::{Build, Claim, Store};
 pub use targets::{read_targets, write_targets};
 pub use walking::{LIMITS, Limits, Met, Skips, Walk, walk_all, walk_below};

@@ -1,27 +1,22 @@
 // What the entries below the dkms root tell, gathered.
-ghost use Rattle.std.specs.Prelude.{◌≡◌, ◌∷◌, [], ◌++◌, List, ℕ, not, map, filter, codes, IfOk, OnOk, IsTrue};
+ghost use Rattle.std.specs.Prelude.{◌≡◌, ◌∷◌, [], List, ℕ, not, map, filter, OnOk, IsTrue};
 ghost use Rattle.std.specs.List.{list_all};
 ghost use Rattle.std.specs.Option.{ForSome};
 ghost use Rattle.kb_world.specs.Names.{is_word};
 ghost use Rattle.kb_world.specs.Tree.{node_at, is_file};
 ghost use Rattle.kb_world.specs.Path.{child};
 ghost use Rattle.kb_world.specs.State.{Looks};
-ghost use Rattle.kb_world.specs.Store as store;
-ghost use Rattle.kb_world.specs.Boxes as boxes;
-ghost use Rattle.kb_world.specs.Boxes.{key_of};
+ghost use Rattle.kb_world.specs.StorePath.{is_key, is_spot, is_ruled};
 ghost use Rattle.kb_world.specs.Targets.{is_place};
 ghost use Rattle.kb_world.specs.Targets as targets;
-ghost use Rattle.kb_store.specs.Notes.{no_notes, harmed, source_noted, link_noted, absence_noted, box_noted, noted, noted_all};
+ghost use Rattle.kb_store.specs.Notes.{no_notes, harmed, source_noted, link_noted, absence_noted, box_noted, place_noted, noted, noted_all};
 
 use crate::entries::{is_added, linked_at, places_at};
-use crate::links::spot_of_link;
-use crate::paths::{link_path, modules_path};
-use crate::place::{RelPath, last_name};
+use crate::place::last_name;
 use crate::store::{Build, Installation};
 use crate::walking::Met;
 use kb_world::{
-    Key, Kind, Path, Roots, Sequence, Spot, Text, World, WorldError, is_arch, is_kernel,
-    is_version, is_word,
+    Key, Kind, Path, RelPath, Roots, Sequence, Spot, StorePath, Text, World, WorldError,
 };
 use std::alloc::{AllocError, Global};
 
@@ -63,77 +58,51 @@ impl Notes {
     }
 }
 
-fn is_key(word: &Text, version: &Text) -> bool
-    ensures { result ≡ store.is_key (key_of word.now version.now) }
-{
-    is_word(word.as_str()) && is_version(version.as_str())
-}
-
-fn is_spot(kernel: &Text, arch: &Text) -> bool
-    ensures { result ≡ boxes.is_spot (record { kernel = kernel.now; arch = arch.now }) }
-{
-    is_kernel(kernel.as_str()) && is_arch(arch.as_str())
-}
-
-fn key_if(alloc: Global, word: &Text, version: &Text) -> Result<Key, AllocError>
-    ensures { IfOk result (λ key. key ≡ key_of word.now version.now) }
-{
-    Ok(Key {
-        module: word.clone()?,
-        version: version.clone()?,
-    })
-}
-
 // Notes what stands at a version's link.
 fn note_source<W: World>(
     alloc: Global,
     world: &mut W,
     roots: &Roots,
-    path: &Path,
-    word: &Text,
-    version: &Text,
+    key: Key,
     notes: &mut Notes,
 ) -> Result<(), WorldError>
-    requires here { path.now ≡ store.link_path roots.now (key_of word.now version.now) }
-    requires named { IsTrue (store.is_key (key_of word.now version.now)) }
-    ensures noted { OnOk result (ForSome (W.state world.old).tree (λ tree.
-        notes.new ≡ source_noted roots.now tree notes.old (key_of word.now version.now))) }
+    requires { IsTrue (is_key key) }
+    ensures noted { OnOk result (ForSome (W.state world.old).tree (λ tree. notes.new ≡ source_noted roots.now tree notes.old key)) }
     ensures same { Looks (W.state world.old) (W.state world.new) result }
 {
-    if is_added(alloc, world, roots, path, word, version)? {
-        notes.added.push(key_if(alloc, word, version)?)?;
+    if is_added(alloc, world, roots, &key)? {
+        notes.added.push(key)?;
     } else {
-        notes.add_harm(path)?;
+        let link = roots.source_link(alloc, &key)?;
+        notes.add_harm(&link)?;
     }
     Ok(())
 }
 
-// Notes what stands at a module's entry, where that is the link of a spot.
+// Notes what stands at a module's link for a spot.
 fn note_link<W: World>(
     alloc: Global,
     world: &mut W,
     roots: &Roots,
-    path: &Path,
-    word: &Text,
-    name: &Text,
+    module: Text,
+    spot: Spot,
     notes: &mut Notes,
 ) -> Result<(), WorldError>
-    requires { IsTrue (is_word word.now) }
-    ensures noted { OnOk result (ForSome (W.state world.old).tree (λ tree.
-        notes.new ≡ link_noted roots.now tree notes.old path.now word.now (boxes.spot_of_link name.now))) }
+    requires worded { IsTrue (is_word «module») }
+    requires spotted { IsTrue (is_spot spot) }
+    ensures noted { OnOk result (ForSome (W.state world.old).tree (λ tree. notes.new ≡ link_noted roots.now tree notes.old «module» spot)) }
     ensures same { Looks (W.state world.old) (W.state world.new) result }
 {
-    let spot = match spot_of_link(alloc, name.as_str())? {
-        Some(spot) => spot,
-        None => return Ok(()),
-    };
-    match linked_at(alloc, world, roots, path, word, &spot)? {
+    match linked_at(alloc, world, roots, &module, &spot)? {
         Some(version) => notes.installed.push(Installation {
-            module: word.clone()?,
+            module,
             spot,
             version,
         })?,
-        None => notes.add_harm(path)?,
+        None => {
+            let link = roots.kernel_link(alloc, &module, &spot)?;
+            notes.add_harm(&link)?;
+        }
     }
     Ok(())
 }
@@ -143,16 +112,14 @@ fn note_absence<W: World>(
     alloc: Global,
     world: &mut W,
     roots: &Roots,
-    word: &Text,
-    version: &Text,
+    key: &Key,
     notes: &mut Notes,
 ) -> Result<(), WorldError>
-    requires { IsTrue (store.is_key (key_of word.now version.now)) }
-    ensures noted { OnOk result (ForSome (W.state world.old).tree (λ tree.
-        notes.new ≡ absence_noted roots.now tree notes.old (key_of word.now version.now))) }
+    requires { IsTrue (is_key key.now) }
+    ensures noted { OnOk result (ForSome (W.state world.old).tree (λ tree. notes.new ≡ absence_noted roots.now tree notes.old key.now)) }
     ensures same { Looks (W.state world.old) (W.state world.new) result }
 {
-    let link = link_path(alloc, roots, word, version)?;
+    let link = roots.source_link(alloc, key)?;
     match world.look(alloc, &link)? {
         Kind::Absent => Ok(notes.add_harm(&link)?),
         _ => Ok(()),
@@ -203,128 +170,45 @@ fn note_box<W: World>(
     alloc: Global,
     world: &mut W,
     roots: &Roots,
-    path: &Path,
-    word: &Text,
-    version: &Text,
+    key: Key,
     spot: Spot,
     notes: &mut Notes,
 ) -> Result<(), WorldError>
-    requires here { path.now ≡ boxes.targets_path roots.now (key_of word.now version.now) spot }
-    requires named { IsTrue (store.is_key (key_of word.now version.now)) }
-    requires spotted { IsTrue (boxes.is_spot spot) }
-    ensures noted { OnOk result (ForSome (W.state world.old).tree (λ tree.
-        notes.new ≡ box_noted roots.now tree notes.old (key_of word.now version.now) spot)) }
+    requires named { IsTrue (is_key key) }
+    requires spotted { IsTrue (is_spot spot) }
+    ensures noted { OnOk result (ForSome (W.state world.old).tree (λ tree. notes.new ≡ box_noted roots.now tree notes.old key spot)) }
     ensures same { Looks (W.state world.old) (W.state world.new) result }
 {
-    note_absence(alloc, world, roots, word, version, notes)?;
-    match places_at(alloc, world, path)? {
-        Some(places) => {
-            let modules = modules_path(alloc, roots, word, version, &spot)?;
-            note_files(alloc, world, &modules, places.as_slice(), notes)?;
-            notes.builds.push(Build {
-                key: key_if(alloc, word, version)?,
-                spot,
-                targets: places,
-            })?;
+    note_absence(alloc, world, roots, &key, notes)?;
+    let path = roots.targets(alloc, &key, &spot)?;
+    match places_at(alloc, world, &path)? {
+        Some(targets) => {
+            let modules = roots.modules_dir(alloc, &key, &spot)?;
+            note_files(alloc, world, &modules, targets.as_slice(), notes)?;
+            notes.builds.push(Build { key, spot, targets })?;
         }
-        None => notes.add_harm(path)?,
+        None => notes.add_harm(&path)?,
     }
     Ok(())
 }
 
-// Notes what stands at a module's entry.
-fn note_in_module<W: World>(
+// Notes what stands at the path that is for this.
+fn note_place<W: World>(
     alloc: Global,
     world: &mut W,
     roots: &Roots,
-    path: &Path,
-    word: &Text,
-    name: &Text,
+    place: StorePath,
     notes: &mut Notes,
 ) -> Result<(), WorldError>
-    requires { path.now ≡ roots.now.dkms ++ word.now ∷ name.now ∷ [] }
-    ensures noted { OnOk result (ForSome (W.state world.old).tree (λ tree. notes.new ≡ noted roots.now tree notes.old path.now)) }
+    requires { IsTrue (is_ruled place) }
+    ensures noted { OnOk result (ForSome (W.state world.old).tree (λ tree. notes.new ≡ place_noted roots.now tree notes.old place)) }
     ensures same { Looks (W.state world.old) (W.state world.new) result }
 {
-    if is_word(word.as_str()) {
-        note_link(alloc, world, roots, path, word, name, notes)
-    } else {
-        Ok(())
-    }
-}
-
-// Notes what stands at a version's entry.
-fn note_in_version<W: World>(
-    alloc: Global,
-    world: &mut W,
-    roots: &Roots,
-    path: &Path,
-    word: &Text,
-    version: &Text,
-    name: &Text,
-    notes: &mut Notes,
-) -> Result<(), WorldError>
-    requires { path.now ≡ roots.now.dkms ++ word.now ∷ version.now ∷ name.now ∷ [] }
-    ensures noted { OnOk result (ForSome (W.state world.old).tree (λ tree. notes.new ≡ noted roots.now tree notes.old path.now)) }
-    ensures same { Looks (W.state world.old) (W.state world.new) result }
-{
-    if is_key(word, version) && name.as_str() == "source" {
-        note_source(alloc, world, roots, path, word, version, notes)
-    } else {
-        Ok(())
-    }
-}
-
-// Notes what stands at an entry of a build.
-fn note_in_box<W: World>(
-    alloc: Global,
-    world: &mut W,
-    roots: &Roots,
-    path: &Path,
-    word: &Text,
-    version: &Text,
-    kernel: &Text,
-    arch: &Text,
-    name: &Text,
-    notes: &mut Notes,
-) -> Result<(), WorldError>
-    requires { path.now ≡ roots.now.dkms ++ word.now ∷ version.now ∷ kernel.now ∷ arch.now ∷ name.now ∷ [] }
-    ensures noted { OnOk result (ForSome (W.state world.old).tree (λ tree. notes.new ≡ noted roots.now tree notes.old path.now)) }
-    ensures same { Looks (W.state world.old) (W.state world.new) result }
-{
-    if is_key(word, version) && is_spot(kernel, arch) && name.as_str() == "targets" {
-        let spot = Spot {
-            kernel: kernel.clone()?,
-            arch: arch.clone()?,
-        };
-        note_box(alloc, world, roots, path, word, version, spot, notes)
-    } else {
-        Ok(())
-    }
-}
-
-// Notes what stands at a path with these names below the dkms root.
-fn note_below<W: World>(
-    alloc: Global,
-    world: &mut W,
-    roots: &Roots,
-    path: &Path,
-    names: &[Text],
-    notes: &mut Notes,
-) -> Result<(), WorldError>
-    requires { path.now ≡ roots.now.dkms ++ names.now }
-    ensures noted { OnOk result (ForSome (W.state world.old).tree (λ tree. notes.new ≡ noted roots.now tree notes.old path.now)) }
-    ensures same { Looks (W.state world.old) (W.state world.new) result }
-{
-    match names {
-        [word, name] => note_in_module(alloc, world, roots, path, word, name, notes),
-        [word, version, name] => {
-            note_in_version(alloc, world, roots, path, word, version, name, notes)
-        }
-        [word, version, kernel, arch, name] => {
-            note_in_box(
-                alloc, world, roots, path, word, version, kernel, arch, name, notes,
-            )
+    match place {
+        StorePath::SourceLink(key) => note_source(alloc, world, roots, key, notes),
+        StorePath::Targets(key, spot) => note_box(alloc, world, roots, key, spot, notes),
+        StorePath::KernelLink(module, spot) => {
+            note_link(alloc, world, roots, module, spot, notes)
         }
         _ => Ok(()),
     }
@@ -341,8 +225,8 @@ pub(crate) fn note<W: World>(
     ensures noted { OnOk result (ForSome (W.state world.old).tree (λ tree. notes.new ≡ noted roots.now tree notes.old path.now)) }
     ensures same { Looks (W.state world.old) (W.state world.new) result }
 {
-    match path.below(&roots.dkms) {
-        Some(names) => note_below(alloc, world, roots, path, names, notes),
+    match StorePath::of(alloc, roots, path)? {
+        Some(place) => note_place(alloc, world, roots, place, notes),
         None => Ok(()),
     }
 }

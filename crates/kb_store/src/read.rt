@@ -18,6 +18,7 @@ ghost use Rattle.kb_store.specs.Walking.{entries, met_at};
 
 use crate::chests::chests_of;
 use crate::notes::{Notes, note_all};
+use crate::private::Shallow;
 use crate::store::Store;
 use crate::walking::{LIMITS, Met, Walk, walk_all, walk_below};
 use kb_world::{Path, Refusal, Roots, Stop, World, WorldError};
@@ -44,7 +45,8 @@ fn version_above(alloc: Global, roots: &Roots, path: &Path) -> Result<Option<Pat
     }
 }
 
-// Notes what stands in the version that the walk ended in. A `targets` behind that place may tell of damage before it.
+// Notes what stands in the version that the walk ended in, down to where its files `targets` may be: one behind that path
+// may tell of damage before it.
 fn note_version<W: World>(
     alloc: Global,
     world: &mut W,
@@ -59,7 +61,11 @@ fn note_version<W: World>(
 {
     match version_above(alloc, roots, over)? {
         Some(directory) => {
-            let met = walk_all(alloc, world, roots, &directory)?;
+            let shallow = Shallow {
+                roots,
+                directory: &directory,
+            };
+            let met = walk_all(alloc, world, &shallow, &directory)?;
             note_all(alloc, world, roots, met.as_slice(), notes)
         }
         None => Ok(()),

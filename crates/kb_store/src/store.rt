@@ -5,8 +5,8 @@ ghost use Rattle.std.specs.Ordering.{is_lt};
 ghost use Rattle.kb_store.specs.Accessors as part;
 ghost use Rattle.kb_store.specs.Claims.{lesser};
 
-use crate::place::{Places, RelPath, last_name};
-use kb_world::{Key, Sequence, Spot, Text};
+use crate::place::{Places, last_name};
+use kb_world::{Key, RelPath, Sequence, Spot, Text};
 
 /// A build of an added version: its modules' places below the kernel's directory, in the order of its conf.
 #[derive(Debug, Drop)]
@@ -67,21 +67,12 @@ fn is_chest(chest: &Chest, module: &str, spot: &Spot) -> bool
     chest.module.as_str() == module && is_same_spot(&chest.spot, spot)
 }
 
-// Whether the build is that of the installed version.
-fn is_installed_build(build: &Build, installation: &Installation) -> bool
-    ensures { result ≡ part.is_build_of installation.now build.now }
+// Whether it is a build for the kernel, but not of this module for this architecture.
+fn is_other(build: &Build, kernel: &str, module: &str, arch: &str) -> bool
+    ensures { result ≡ part.is_other kernel.now «module».now arch.now build.now }
 {
-    build.key.module.as_str() == installation.module.as_str()
-        && build.key.version.as_str() == installation.version.as_str()
-        && is_same_spot(&build.spot, &installation.spot)
-}
-
-// Whether it is an installation for the kernel, but not of this module for this architecture.
-fn is_other(installation: &Installation, kernel: &str, module: &str, arch: &str) -> bool
-    ensures { result ≡ part.is_other kernel.now «module».now arch.now installation.now }
-{
-    installation.spot.kernel.as_str() == kernel
-        && !(installation.module.as_str() == module && installation.spot.arch.as_str() == arch)
+    build.spot.kernel.as_str() == kernel
+        && !(build.key.module.as_str() == module && build.spot.arch.as_str() == arch)
 }
 
 fn is_less(a: &Claim, b: &Claim) -> bool
@@ -178,29 +169,47 @@ impl Store {
         &[]
     }
 
-    // The places of the build that is installed.
-    fn places(&self, installation: &Installation) -> &[RelPath]
-        ensures { result.now ≡ part.places_of self.now installation.now }
+    // Whether the build is that of the version that is installed of its module for its spot.
+    fn is_installed_build(&self, build: &Build) -> bool
+        ensures { result ≡ part.is_installed_build self.now build.now }
     {
-        for build in self.builds.as_slice() {
-            if is_installed_build(build, installation) {
-                return build.targets.as_slice();
-            }
+        match self.installed(build.key.module.as_str(), &build.spot) {
+            Some(version) => version.as_str() == build.key.version.as_str(),
+            None => false,
         }
-        &[]
     }
 
-    /// Who else claims a file of this name for the kernel: the least claim of an installation that isn't of this module
-    /// for this architecture.
+    // The least claim of a build, whose places are looked at before the installations are.
+    fn claim_of<'a>(
+        &self,
+        build: &'a Build,
+        kernel: &str,
+        file: &str,
+        module: &str,
+        arch: &str,
+    ) -> Option<Claim<'a>>
+        ensures { part.told result ≡ part.least_claim (part.claims_of self.now kernel.now file.now «module».now arch.now build.now) }
+    {
+        if !is_other(build, kernel, module, arch) {
+            return None;
+        }
+        let claim = least_claim(build.targets.as_slice(), file, &build.key.module);
+        if claim.is_some() && self.is_installed_build(build) {
+            claim
+        } else {
+            None
+        }
+    }
+
+    /// Who else claims a file of this name for the kernel: the least claim of an installed build that isn't of this
+    /// module for this architecture.
     pub fn claimant(&self, kernel: &str, file: &str, module: &str, arch: &str) -> Option<Claim<'_>>
         ensures { part.told result ≡ part.claimant_in self.now kernel.now file.now «module».now arch.now }
     {
         let mut least = None;
-        for installation in self.installed.as_slice() {
-            if is_other(installation, kernel, module, arch) {
-                let places = self.places(installation);
-                least = lesser_of(least, least_claim(places, file, &installation.module));
-            }
+        for build in self.builds.as_slice() {
+            let claim = self.claim_of(build, kernel, file, module, arch);
+            least = lesser_of(least, claim);
         }
         least
     }

@@ -6,8 +6,8 @@ ghost use Rattle.kb_world.specs.Refusal.{LINE_FEED};
 ghost use Rattle.kb_world.specs.Targets as rule;
 ghost use Rattle.kb_store.specs.Reading.{place_if};
 
-use crate::place::{Places, RelPath, can_all_share, is_place};
-use kb_world::{Sequence, Text};
+use crate::place::{Places, can_all_share, is_place};
+use kb_world::{RelPath, Sequence, Text};
 use std::alloc::{AllocError, Global};
 use std::str;
 

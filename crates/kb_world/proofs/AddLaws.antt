@@ -1,11 +1,13 @@
 -- What the step Add does to a store.
 use Rattle.std.proofs.Common.{◌≡◌, ◌≢◌, ℕ, ◌+◌, Bool, true, false, ◌||◌, List, [], ◌∷◌, ◌++◌, length, Option, Some, None, refl, sym, ap, ◌∙◌, subst, arith, length-append}
 use Rattle.std.specs.Prelude.{bytes_eq, codes}
+use Rattle.std.proofs.lemmas.List.{append_cancel_left}
 use Rattle.std.specs.Option.{option_or}
 use Rattle.std.specs.Cmp.{first_so, second_so}
 use Rattle.std.specs.Cmp.Derive.{both_true}
 use Rattle.std.specs.Cmp.Lexicographic.{bytes_decides}
-use Rattle.kb_world.specs.Path.{Path, child}
+use Rattle.kb_world.specs.Path.{Path}
+use Rattle.kb_world.specs.StorePath.{key_of, names_of, path_of}
 use Rattle.kb_world.specs.Tree.{Tree, node_at, is_dir, link_text}
 use Rattle.kb_world.specs.TreeLaws.{same_path, same_path-true, same_path-refl, with_node-here, with_node-apart}
 use Rattle.kb_world.specs.Store.{is_added, same_key, says, module_path, version_path, link_path, source_text}
@@ -13,27 +15,13 @@ use Rattle.kb_world.specs.Steps.{with_directory, blocking, add_step, add_blocked
 use Rattle.kb_world.specs.declared.roots.Roots.{Roots}
 use Rattle.kb_world.specs.declared.job.Key.{Key}
 use Rattle.kb_world.specs.declared.tree.Node.TheVariants as node
-use Rattle.kb_world.proofs.StepLaws.{child-other, directory-here, directory-apart, blocking-same}
+use Rattle.kb_world.specs.declared.store_path.StorePath.TheVariants.{SourceLink}
+use Rattle.kb_world.proofs.StepLaws.{directory-here, directory-apart, blocking-same}
 use Rattle.kb_world.proofs.PathLaws.{by_test}
-
--- the last names of two paths that are one
-last_same : (a b : Path) (m n : List ℕ) → a ++ m ∷ [] ≡ b ++ n ∷ [] → (a ≡ b) × (m ≡ n)
-last_same [] [] m n e = (refl, cc)
-last_same [] (y ∷ b) m n e = absurd (omega (arith, ap length e, length-append b (n ∷ [])))
-last_same (x ∷ a) [] m n e = absurd (omega (arith, ap length e, length-append a (m ∷ [])))
-last_same (x ∷ a) (y ∷ b) m n e =
-    let tails : a ++ m ∷ [] ≡ b ++ n ∷ [] = cc in
-    let heads : x ≡ y = cc in
-    let below = last_same a b m n tails in
-    ((λ i. heads i ∷ below.0 i), below.1)
 
 -- two packages with one link are one
 one_link : (roots : Roots) (a b : Key) → link_path roots a ≡ link_path roots b → (a.module ≡ b.module) × (a.version ≡ b.version)
-one_link roots a b e =
-    let versions = last_same (version_path roots a) (version_path roots b) (codes "source") (codes "source") e in
-    let modules = last_same (module_path roots a) (module_path roots b) a.version b.version versions.0 in
-    let roots_same = last_same roots.dkms roots.dkms a.module b.module modules.0 in
-    (roots_same.1, modules.1)
+one_link roots a b e = let same = append_cancel_left roots.dkms (names_of (SourceLink a)) (names_of (SourceLink b)) e in (cc, cc)
 
 pub elsewhere : (roots : Roots) (key : Key) (store : Tree) (path : Path) → path ≢ module_path roots key → path ≢ version_path roots key → path ≢ link_path roots key
     → node_at (add_step roots key store) path ≡ node_at store path
@@ -48,14 +36,13 @@ here roots key store = with_node-here (with_directory (version_path roots key) (
 
 -- a link is no directory above another package's link
 longer : (roots : Roots) (a b : Key) → length (link_path roots a) ≡ length roots.dkms + 3
-longer roots a b =
-    omega (arith, length-append (version_path roots a) (codes "source" ∷ []), length-append (module_path roots a) (a.version ∷ []), length-append roots.dkms (a.module ∷ []))
+longer roots a b = omega (arith, length-append roots.dkms (names_of (SourceLink a)))
 
 pub directories : (roots : Roots) (key : Key) (store : Tree) → add_blocked roots key store ≡ None → is_dir (node_at (add_step roots key store) (version_path roots key)) ≡ true
 unfolding add_step
 directories roots key store free =
-    let below : version_path roots key ≢ link_path roots key = λ same. child-other (version_path roots key) (codes "source") (sym same) in
-    let above : version_path roots key ≢ module_path roots key = λ same. child-other (module_path roots key) key.version same in
+    let below : version_path roots key ≢ link_path roots key = λ same. let names = append_cancel_left roots.dkms (key.module ∷ key.version ∷ []) (names_of (SourceLink key)) same in cc in
+    let above : version_path roots key ≢ module_path roots key = λ same. let names = append_cancel_left roots.dkms (key.module ∷ key.version ∷ []) (key.module ∷ []) same in cc in
     let once = with_directory (module_path roots key) store in
     let open_to = blocking-same (version_path roots key) once store (directory-apart (module_path roots key) store (version_path roots key) above) ∙ second_free (blocking (module_path roots key) store) _ free in
     ap is_dir (with_node-apart (with_directory (version_path roots key) once) (link_path roots key) (node.Link (source_text roots key)) (version_path roots key) below)
@@ -78,7 +65,7 @@ added roots key other store = by_path (same_path (link_path roots other) (link_p
     not_named e = by_test (same_key other key) (λ named.
         let modules = (bytes_decides other.module key.module).0 (first_so (bytes_eq other.module key.module) (bytes_eq other.version key.version) named) in
         let versions = (bytes_decides other.version key.version).0 (second_so (bytes_eq other.module key.module) (bytes_eq other.version key.version) named) in
-        apart_paths e (λ i. child (child (child roots.dkms (modules i)) (versions i)) (codes "source")))
+        apart_paths e (λ i. path_of roots (SourceLink (key_of (modules i) (versions i)))))
 
     by_path : (same : Bool) → same_path (link_path roots other) (link_path roots key) ≡ same
         → is_added roots other (add_step roots key store) ≡ (same_key other key || is_added roots other store)
@@ -92,6 +79,6 @@ added roots key other store = by_path (same_path (link_path roots other) (link_p
         let other_link : link_path roots other ≢ link_path roots key = λ same. apart_paths e same in
         let no_module : link_path roots other ≢ module_path roots key = λ same. absurd (omega (arith, longer roots other key, ap length same, length-append roots.dkms (key.module ∷ []))) in
         let no_version : link_path roots other ≢ version_path roots key = λ same.
-        absurd (omega (arith, longer roots other key, ap length same, length-append (module_path roots key) (key.version ∷ []), length-append roots.dkms (key.module ∷ []))) in
+        absurd (omega (arith, longer roots other key, ap length same, length-append roots.dkms (key.module ∷ key.version ∷ []))) in
         let stays = elsewhere roots key store (link_path roots other) no_module no_version other_link in
         ap (λ at. says (source_text roots other) (link_text at)) stays ∙ sym (ap (λ b. b || is_added roots other store) (not_named e))

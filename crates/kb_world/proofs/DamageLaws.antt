@@ -6,20 +6,23 @@ use Rattle.std.specs.FinMap.{keys, contains_key-keys}
 use Rattle.std.specs.Cmp.{first_so, second_so}
 use Rattle.std.specs.Cmp.Derive.{both_true}
 use Rattle.std.specs.Cmp.Lexicographic.{bytes_decides}
-use Rattle.kb_world.specs.Names.{is_word}
-use Rattle.kb_world.specs.Path.{Path, is_under}
+use Rattle.kb_world.specs.Names.{is_word, is_kernel, is_arch}
+use Rattle.kb_world.specs.Path.{Path}
+use Rattle.kb_world.specs.StorePath.{is_ruled, store_path, path_of}
 use Rattle.kb_world.specs.Tree.{Tree, node_at, is_file}
 use Rattle.kb_world.specs.TreeLaws.{same_path, same_path-true, same_path-refl}
 use Rattle.kb_world.specs.Store.{is_key, is_added, link_path}
-use Rattle.kb_world.specs.Boxes.{is_spot, targets_path, module_file, places_at, has_files, spot_of_link, linked_at, key_of}
-use Rattle.kb_world.specs.Damage.{unless_sound, source_harm, files_harm, box_harm, link_harm, harm_below, harm_at, least, harms, hurt}
+use Rattle.kb_world.specs.Boxes.{is_spot, targets_path, module_file, places_at, has_files, kernel_link_name, kernel_link_path, spot_of_link, linked_at, key_of}
+use Rattle.kb_world.specs.Damage.{unless_sound, files_harm, box_harm, harm_by, harm_of, harm_at, least, harms, hurt}
 use Rattle.kb_world.specs.declared.roots.Roots.{Roots}
 use Rattle.kb_world.specs.declared.job.Key.{Key}
 use Rattle.kb_world.specs.declared.job.Spot.{Spot}
-use Rattle.kb_world.proofs.PathLaws.{under-append, drop-front}
-
-abbrev pub spot_of : List ℕ → List ℕ → Spot
-spot_of kernel arch = record { kernel = kernel; arch = arch }
+use Rattle.kb_world.specs.declared.store_path.StorePath.{StorePath}
+use Rattle.kb_world.specs.declared.store_path.StorePath.TheVariants.{SourceLink, InScratch, Targets, InBox, KernelLink, InChest}
+use Rattle.kb_world.proofs.SpotLaws.{link_read, link_named, link_spotted}
+use Rattle.kb_world.proofs.StorePathLaws.{place_there, place_back}
+pub use Rattle.kb_world.specs.StorePath.{spot_of}
+pub use Rattle.kb_world.proofs.PathLaws.{under-split}
 
 -- what stands at a build's `targets` is one, with its files, below a version that has a link
 pub record IsSoundBox (roots : Roots) (store : Tree) (key : Key) (spot : Spot) : Type 0 where
@@ -107,22 +110,13 @@ all_none f (x ∷ xs) h =
 standing : (store : Tree) (q : Path) → is_some (node_at store q) ≡ list_any (same_path q) (keys store)
 standing store q = contains_key-keys store q
 
-harm-below : (roots : Roots) (store : Tree) (names : Path) → harm_at roots store (roots.dkms ++ names) ≡ harm_below roots store names
-harm-below roots store names =
-    ap (λ b. cond b (harm_below roots store (drop (length roots.dkms) (roots.dkms ++ names))) []) (under-append roots.dkms names)
-    ∙ ap (harm_below roots store) (drop-front roots.dkms names)
+pub harm-there : (roots : Roots) (store : Tree) (place : StorePath) → is_ruled place ≡ true → harm_at roots store (path_of roots place) ≡ harm_by roots store place
+harm-there roots store place ruled = ap (harm_of roots store) (place_there roots place ruled)
 
-harmless : (roots : Roots) (store : Tree) → hurt roots store ≡ None → (names : Path) → is_some (node_at store (roots.dkms ++ names)) ≡ true → harm_below roots store names ≡ []
+harmless : (roots : Roots) (store : Tree) → hurt roots store ≡ None → (place : StorePath) → is_ruled place ≡ true → is_some (node_at store (path_of roots place)) ≡ true → harm_by roots store place ≡ []
 unfolding hurt
-harmless roots store e names stands =
-    sym (harm-below roots store names) ∙ none_in (harm_at roots store) (keys store) (roots.dkms ++ names) (no-least (harms roots store) e) (sym (standing store (roots.dkms ++ names)) ∙ stands)
-
--- the path of a version's link, by its names
-pub link_names : (roots : Roots) (key : Key) → link_path roots key ≡ roots.dkms ++ key.module ∷ key.version ∷ codes "source" ∷ []
-link_names roots key = append_assoc (roots.dkms ++ key.module ∷ []) (key.version ∷ []) (codes "source" ∷ []) ∙ append_assoc roots.dkms (key.module ∷ []) (key.version ∷ codes "source" ∷ [])
-
-opened : (test : Bool) (xs : List Path) → test ≡ true → cond test xs [] ≡ [] → xs ≡ []
-opened test xs h e = sym (ap (λ b. cond b xs []) h) ∙ e
+harmless roots store e place ruled stands =
+    sym (harm-there roots store place ruled) ∙ none_in (harm_at roots store) (keys store) (path_of roots place) (no-least (harms roots store) e) (sym (standing store (path_of roots place)) ∙ stands)
 
 files_of : (roots : Roots) (store : Tree) (key : Key) (spot : Spot) (told : Option (List Path)) → places_at roots store key spot ≡ told → files_harm roots store key spot told ≡ [] → is_some (node_at store (link_path roots key)) ≡ true
     → IsSoundBox roots store key spot
@@ -140,27 +134,22 @@ files_of roots store key spot (Some places) told e stands = record {
 pub sound_from : (roots : Roots) (store : Tree) → hurt roots store ≡ None → IsSound roots store
 sound_from roots store e = record {
   sources = λ word version named stands.
-      let none = harmless roots store e (word ∷ version ∷ codes "source" ∷ []) (ap (λ p. is_some (node_at store p)) (sym (link_names roots (key_of word version))) ∙ stands) in
-      sound-of (is_added roots (key_of word version) store) (link_path roots (key_of word version))
-      (opened (is_key (key_of word version) && true) (source_harm roots store (key_of word version)) (both_true named refl) none);
+      let key = key_of word version in
+      sound-of (is_added roots key store) (link_path roots key) (harmless roots store e (SourceLink key) named stands);
   boxes = λ word version kernel arch named spotted stands.
       let key = key_of word version in
       let spot = spot_of kernel arch in
-      let none = opened (is_key key && is_spot spot && true) (box_harm roots store key spot) (both_true (both_true named spotted) refl)
-      (harmless roots store e (word ∷ version ∷ kernel ∷ arch ∷ codes "targets" ∷ []) stands) in
+      let none = harmless roots store e (Targets key spot) (both_true named spotted) stands in
       files_of roots store key spot (places_at roots store key spot) refl (back_empty (unless_sound (is_some (node_at store (link_path roots key))) (link_path roots key)) _ none)
       (sound-of (is_some (node_at store (link_path roots key))) (link_path roots key) (front_empty _ (files_harm roots store key spot (places_at roots store key spot)) none));
   links = λ word name spot named told stands.
-      let path : Path = roots.dkms ++ word ∷ name ∷ [] in
-      sound-of (is_some (linked_at roots store path word spot)) path
-      (sym (ap (link_harm roots store path word) told) ∙ opened (is_word word) (link_harm roots store path word (spot_of_link name)) named (harmless roots store e (word ∷ name ∷ []) stands));
+      let here : kernel_link_path roots word spot ≡ roots.dkms ++ word ∷ name ∷ [] = ap (λ n. roots.dkms ++ word ∷ n ∷ []) (sym (link_named name spot told)) in
+      ap (λ p. is_some (linked_at roots store p word spot)) (sym here)
+      ∙ sound-of (is_some (linked_at roots store (kernel_link_path roots word spot) word spot)) (kernel_link_path roots word spot)
+      (harmless roots store e (KernelLink word spot) (both_true named (link_spotted name spot told)) (ap (λ p. is_some (node_at store p)) here ∙ stands));
 }
 
 -- ---- and back
-
-closed : (test : Bool) (xs : List Path) → (test ≡ true → xs ≡ []) → cond test xs [] ≡ []
-closed true xs h = h refl
-closed false xs h = refl
 
 box_none : (roots : Roots) (store : Tree) (key : Key) (spot : Spot) → IsSoundBox roots store key spot → box_harm roots store key spot ≡ []
 box_none roots store key spot b =
@@ -168,38 +157,25 @@ box_none roots store key spot b =
     (unless-sound (is_some (node_at store (link_path roots key))) (link_path roots key) b.stands)
     (ap (files_harm roots store key spot) b.told ∙ none-fails (λ file. is_file (node_at store file)) (module_file roots key spot) b.places b.files)
 
-none_below : (roots : Roots) (store : Tree) → IsSound roots store → (names : Path) → is_some (node_at store (roots.dkms ++ names)) ≡ true → harm_below roots store names ≡ []
-none_below roots store s [] stands = refl
-none_below roots store s (word ∷ []) stands = refl
-none_below roots store s (word ∷ name ∷ []) stands = closed (is_word word) (link_harm roots store (roots.dkms ++ word ∷ name ∷ []) word (spot_of_link name)) (λ named. by named (spot_of_link name) refl)
-  where
-    by : is_word word ≡ true → (told : Option Spot) → spot_of_link name ≡ told → link_harm roots store (roots.dkms ++ word ∷ name ∷ []) word told ≡ []
-    by named None e = refl
-    by named (Some spot) e = unless-sound (is_some (linked_at roots store (roots.dkms ++ word ∷ name ∷ []) word spot)) (roots.dkms ++ word ∷ name ∷ []) (s.links word name spot named e stands)
-none_below roots store s (word ∷ version ∷ name ∷ []) stands = closed (is_key (key_of word version) && bytes_eq name (codes "source")) (source_harm roots store (key_of word version)) (λ h.
-    let is_source = (bytes_decides name (codes "source")).0 (second_so (is_key (key_of word version)) (bytes_eq name (codes "source")) h) in
-    let here = ap (λ p. is_some (node_at store p)) (link_names roots (key_of word version) ∙ ap (λ n. roots.dkms ++ word ∷ version ∷ n ∷ []) (sym is_source)) ∙ stands in
-    unless-sound (is_added roots (key_of word version) store) (link_path roots (key_of word version)) (s.sources word version (first_so (is_key (key_of word version)) (bytes_eq name (codes "source")) h) here))
-none_below roots store s (word ∷ version ∷ kernel ∷ arch ∷ []) stands = refl
-none_below roots store s (word ∷ version ∷ kernel ∷ arch ∷ name ∷ []) stands =
-    closed (is_key (key_of word version) && is_spot (spot_of kernel arch) && bytes_eq name (codes "targets")) (box_harm roots store (key_of word version) (spot_of kernel arch)) (λ h.
-    let key = key_of word version in
-    let spot = spot_of kernel arch in
-    let is_targets = (bytes_decides name (codes "targets")).0 (second_so (is_key key && is_spot spot) (bytes_eq name (codes "targets")) h) in
-    let front = first_so (is_key key && is_spot spot) (bytes_eq name (codes "targets")) h in
-    let here = ap (λ n. is_some (node_at store (roots.dkms ++ word ∷ version ∷ kernel ∷ arch ∷ n ∷ []))) (sym is_targets) ∙ stands in
-    box_none roots store key spot (s.boxes word version kernel arch (first_so (is_key key) (is_spot spot) front) (second_so (is_key key) (is_spot spot) front) here))
-none_below roots store s (word ∷ version ∷ kernel ∷ arch ∷ name ∷ more ∷ rest) stands = refl
-
-pub under-split : (p a : Path) → is_under p a ≡ true → p ≡ a ++ drop (length a) p
-under-split p [] h = refl
-under-split [] (n ∷ a) h = let impossible : true ≡ false = sym h in cc
-under-split (m ∷ p) (n ∷ a) h =
-    let same = (bytes_decides n m).0 (first_so (bytes_eq n m) (is_under p a) h) in
-    let below = under-split p a (second_so (bytes_eq n m) (is_under p a) h) in
-    λ i. sym same i ∷ below i
+none_by : (roots : Roots) (store : Tree) → IsSound roots store → (place : StorePath) → is_ruled place ≡ true → is_some (node_at store (path_of roots place)) ≡ true → harm_by roots store place ≡ []
+none_by roots store s (SourceLink key) ruled stands = unless-sound (is_added roots key store) (link_path roots key) (s.sources key.module key.version ruled stands)
+none_by roots store s (Targets key spot) ruled stands =
+    box_none roots store key spot (s.boxes key.module key.version spot.kernel spot.arch (first_so (is_key key) (is_spot spot) ruled) (second_so (is_key key) (is_spot spot) ruled) stands)
+none_by roots store s (KernelLink word spot) ruled stands =
+    let spotted = second_so (is_word word) (is_spot spot) ruled in
+    unless-sound (is_some (linked_at roots store (kernel_link_path roots word spot) word spot)) (kernel_link_path roots word spot)
+    (s.links word (kernel_link_name spot) spot (first_so (is_word word) (is_spot spot) ruled)
+    (link_read spot.kernel spot.arch (first_so (is_kernel spot.kernel) (is_arch spot.arch) spotted) (second_so (is_kernel spot.kernel) (is_arch spot.arch) spotted)) stands)
+none_by roots store s (InScratch key rest) ruled stands = refl
+none_by roots store s (InBox key spot rest) ruled stands = refl
+none_by roots store s (InChest word spot rest) ruled stands = refl
 
 pub sound_to : (roots : Roots) (store : Tree) → IsSound roots store → hurt roots store ≡ None
 unfolding hurt
-sound_to roots store s = ap least (all_none (harm_at roots store) (keys store) (λ q here. closed (is_under q roots.dkms) (harm_below roots store (drop (length roots.dkms) q)) (λ below.
-    none_below roots store s (drop (length roots.dkms) q) (ap (λ p. is_some (node_at store p)) (sym (under-split q roots.dkms below)) ∙ standing store q ∙ here))))
+sound_to roots store s = ap least (all_none (harm_at roots store) (keys store) (λ q here. by q here (store_path roots q) refl))
+  where
+    by : (q : Path) → list_any (same_path q) (keys store) ≡ true → (told : Option StorePath) → store_path roots q ≡ told → harm_at roots store q ≡ []
+    by q here None e = ap (harm_of roots store) e
+    by q here (Some place) e =
+        let is = place_back roots q place e in
+        ap (harm_of roots store) e ∙ none_by roots store s place is.ruled (ap (λ p. is_some (node_at store p)) (sym is.is) ∙ standing store q ∙ here)

@@ -2,10 +2,13 @@ pub mod AddLaws
 pub mod DamageLaws
 pub mod DoesLaws
 pub mod LayoutLaws
+pub mod LinkLaws
 pub mod NameLaws
+pub mod PartLaws
 pub mod PathLaws
 pub mod PathText
 pub mod PublicLaws
+pub mod PublicPlaces
 pub mod RootsLaws
 pub mod SoundDrops
 pub mod SoundEdits
@@ -15,6 +18,7 @@ pub mod SoundSteps
 pub mod SoundTakes
 pub mod SpotLaws
 pub mod StepLaws
+pub mod StorePathLaws
 pub mod StoreSteps
 pub mod TargetsLaws
 pub mod ThenLaws

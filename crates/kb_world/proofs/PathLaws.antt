@@ -139,3 +139,12 @@ pub regrouped_as : (a b c d e f g p q r s t u v : Bool) → a ≡ p → b ≡ q 
     → ((((((a || b) || c) || d) || e) || f) || g) ≡ (p || (q || (r || (s || (t || (u || (v || false)))))))
 regrouped_as a b c d e f g p q r s t u v ha hb hc hd he hf hg =
     (λ i. ((((((ha i || hb i) || hc i) || hd i) || he i) || hf i) || hg i)) ∙ regrouped p q r s t u v
+
+-- a path under a directory is that directory's with names behind it
+pub under-split : (p a : Path) → is_under p a ≡ true → p ≡ a ++ drop (length a) p
+under-split p [] h = refl
+under-split [] (n ∷ a) h = let impossible : true ≡ false = sym h in cc
+under-split (m ∷ p) (n ∷ a) h =
+    let same = (bytes_decides n m).0 (first_so (bytes_eq n m) (is_under p a) h) in
+    let below = under-split p a (second_so (bytes_eq n m) (is_under p a) h) in
+    λ i. sym same i ∷ below i

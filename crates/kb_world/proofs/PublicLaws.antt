@@ -10,10 +10,12 @@ use Rattle.kb_world.specs.Path.{Path, is_under, are_apart, child}
 use Rattle.kb_world.specs.Roots.{AreApart, based_roots, each_apart}
 use Rattle.kb_world.specs.Tree.{Tree, node_at, with_node, is_dir}
 use Rattle.kb_world.specs.TreeLaws.{paths_exact, same_path, same_path-true, node_at-with_node, same_tree}
-use Rattle.kb_world.specs.Public.{is_public, is_private, is_loose, is_scratch, public_tree, foreign_tree}
+use Rattle.kb_world.specs.Public.{is_public, is_private, is_loose, public_tree, foreign_tree}
+use Rattle.kb_world.specs.StorePath.{told_by, is_in_scratch}
 use Rattle.kb_world.specs.declared.roots.Roots.{Roots}
 use Rattle.kb_world.specs.declared.tree.Node.{Node}
-use Rattle.kb_world.proofs.PathLaws.{under-append, under-beside, elsewhere, elsewhere-below, apart-back, drop-front, by_test}
+use Rattle.kb_world.proofs.PathLaws.{under-append, under-beside, elsewhere, elsewhere-below, apart-back, by_test}
+use Rattle.kb_world.proofs.StorePathLaws.{place_below}
 
 -- the roots that are written, and which of them are apart
 pub record WrittenApart (roots : Roots) : Type 0 where
@@ -69,12 +71,8 @@ is_all u v w hu hv hw = cc
 or_left : (a b : Bool) → a ≡ true → (a || b) ≡ true
 or_left a b h = ap (λ x. x || b) h
 
-and_false : (a b : Bool) → b ≡ false → (a && b) ≡ false
-and_false true b h = h
-and_false false b h = refl
-
 -- below the dkms root, but for what is the tool's own
-pub in_dkms : (roots : Roots) → AreApart roots → (rest : Path) → begins_plainly rest ≡ true → is_scratch rest ≡ false → IsAlwaysPublic roots (roots.dkms ++ rest)
+pub in_dkms : (roots : Roots) → AreApart roots → (rest : Path) → begins_plainly rest ≡ true → is_in_scratch (told_by rest) ≡ false → IsAlwaysPublic roots (roots.dkms ++ rest)
 in_dkms roots h rest plain unscratched at =
     let apart = written_apart roots h in
     let path : Path = roots.dkms ++ rest in
@@ -86,7 +84,7 @@ in_dkms roots h rest plain unscratched at =
     (elsewhere-below path roots.dkms roots.modules (codes ".kb-staged" ∷ []) apart.dkms_modules below)
     (elsewhere-below path roots.dkms roots.boot (codes ".kb-staged" ∷ []) apart.dkms_boot below)
     (elsewhere-below path roots.dkms roots.boot (codes ".kb-plugins" ∷ []) apart.dkms_boot below)
-    (and_false (is_under path roots.dkms) _ (ap is_scratch (drop-front roots.dkms rest) ∙ unscratched)))
+    (ap is_in_scratch (place_below roots rest) ∙ unscratched))
     (ap (λ b. b && nat_eq (length path) (length roots.boot + 1) && not (is_dir at)) no_boot)
 
 -- below the root of sources, but for what is the tool's own
@@ -105,7 +103,7 @@ in_src roots h rest plain at =
     (own_place roots.src rest (codes ".kb-staged") plain refl) (elsewhere-below path roots.src roots.modules (codes ".kb-staged" ∷ []) apart.src_modules below)
     (elsewhere-below path roots.src roots.boot (codes ".kb-staged" ∷ []) apart.src_boot below)
     (elsewhere-below path roots.src roots.boot (codes ".kb-plugins" ∷ []) apart.src_boot below)
-    (ap (λ b. b && is_scratch (drop (length roots.dkms) path)) no_dkms))
+    (ap (λ b. is_in_scratch (cond b (told_by (drop (length roots.dkms) path)) None)) no_dkms))
     (ap (λ b. b && nat_eq (length path) (length roots.boot + 1) && not (is_dir at)) no_boot)
   where
     second_or : (a b c : Bool) → b ≡ true → (a || (b || c)) ≡ true

@@ -15,7 +15,7 @@ use Rattle.kb_world.specs.declared.roots.Roots.{Roots}
 use Rattle.kb_world.specs.declared.job.Spot.{Spot}
 use Rattle.kb_world.specs.declared.tree.Node.{Node}
 use Rattle.kb_world.specs.declared.tree.Node.TheVariants as node
-use Rattle.kb_world.proofs.DamageLaws.{spot_of, IsSound, link_names}
+use Rattle.kb_world.proofs.DamageLaws.{spot_of, IsSound}
 
 -- ---- which entries below the dkms root tell of links and builds
 
@@ -148,9 +148,7 @@ told-version spot (Some text) version h = (version-of spot text version h).0
 
 module _ (roots : Roots) (old new : Tree) (kept : Keeps roots old new) where
   pub source-kept : (word version : List ℕ) → is_version version ≡ true → Kept (word ∷ version ∷ codes "source" ∷ []) (node_at old (link_path roots (key_of word version))) (node_at new (link_path roots (key_of word version)))
-  source-kept word version named =
-      let e = sym (link_names roots (key_of word version)) in
-      subst (λ p. Kept (word ∷ version ∷ codes "source" ∷ []) (node_at old p) (node_at new p)) e (kept (word ∷ version ∷ codes "source" ∷ []) (both_true named refl))
+  source-kept word version named = kept (word ∷ version ∷ codes "source" ∷ []) (both_true named refl)
 
   pub added-kept : (word version : List ℕ) → is_version version ≡ true → is_added roots (key_of word version) old ≡ true → node_at new (link_path roots (key_of word version)) ≡ node_at old (link_path roots (key_of word version))
   added-kept word version named added =

@@ -16,7 +16,7 @@ use Rattle.kb_world.specs.declared.job.Key.{Key}
 use Rattle.kb_world.specs.declared.job.Spot.{Spot}
 use Rattle.kb_world.specs.declared.tree.Node.{Node}
 use Rattle.kb_world.specs.declared.tree.Node.TheVariants as node
-use Rattle.kb_world.proofs.DamageLaws.{spot_of, IsSoundBox, IsSound, link_names}
+use Rattle.kb_world.proofs.DamageLaws.{spot_of, IsSoundBox, IsSound}
 use Rattle.kb_world.proofs.SoundLaws.{list_all-so, linked-so, told-version, link-stands}
 use Rattle.kb_world.proofs.SpotLaws.{link_read, text_read}
 use Rattle.kb_world.proofs.TargetsLaws.{printed}
@@ -51,7 +51,7 @@ module _ (roots : Roots) (tree : Tree) where
 
   -- a version's link comes to stand
   pub source_put : (word version : List ℕ) → IsSound roots tree → IsSound roots (with_node (link_path roots (key_of word version)) (node.Link (source_text roots (key_of word version))) tree)
-  source_put word version s = subst (λ p. IsSound roots (with_node p at tree)) (sym (link_names roots (key_of word version))) (record {
+  source_put word version s = record {
     sources = λ w v named stands. at_source w v named (same_path (roots.dkms ++ w ∷ v ∷ codes "source" ∷ []) (roots.dkms ++ here)) refl stands;
     boxes = λ w v k a named spotted stands.
         let e = other here at (w ∷ v ∷ k ∷ a ∷ codes "targets" ∷ []) (λ e. cc) in
@@ -63,7 +63,7 @@ module _ (roots : Roots) (tree : Tree) where
         link-so roots tree new w spot (roots.dkms ++ w ∷ name ∷ []) e
         (λ v is told_too was. built-so roots tree new (key_of w v) spot (other here at (w ∷ v ∷ spot.kernel ∷ spot.arch ∷ codes "targets" ∷ []) (λ e. cc)) was)
         (s.links w name spot named told (ap is_some (sym e) ∙ stands));
-  })
+  }
     where
       at : Node
       at = node.Link (source_text roots (key_of word version))
@@ -78,10 +78,10 @@ module _ (roots : Roots) (tree : Tree) where
       put w v = node_at-with_node tree (roots.dkms ++ here) at (roots.dkms ++ w ∷ v ∷ codes "source" ∷ [])
 
       stays : (w v : List ℕ) (b : Bool) → same_path (roots.dkms ++ w ∷ v ∷ codes "source" ∷ []) (roots.dkms ++ here) ≡ b → is_some (node_at tree (link_path roots (key_of w v))) ≡ true → is_some (node_at new (link_path roots (key_of w v))) ≡ true
-      stays w v true e was = ap (λ p. is_some (node_at new p)) (link_names roots (key_of w v)) ∙ ap is_some (put w v) ∙ ap (λ b. is_some (cond b (Some at) (node_at tree (roots.dkms ++ w ∷ v ∷ codes "source" ∷ [])))) e
+      stays w v true e was = ap is_some (put w v) ∙ ap (λ b. is_some (cond b (Some at) (node_at tree (roots.dkms ++ w ∷ v ∷ codes "source" ∷ [])))) e
       stays w v false e was =
-          ap (λ p. is_some (node_at new p)) (link_names roots (key_of w v)) ∙ ap is_some (put w v) ∙ ap (λ b. is_some (cond b (Some at) (node_at tree (roots.dkms ++ w ∷ v ∷ codes "source" ∷ [])))) e
-          ∙ sym (ap (λ p. is_some (node_at tree p)) (link_names roots (key_of w v))) ∙ was
+          ap is_some (put w v) ∙ ap (λ b. is_some (cond b (Some at) (node_at tree (roots.dkms ++ w ∷ v ∷ codes "source" ∷ [])))) e
+          ∙ was
 
       at_source : (w v : List ℕ) → is_key (key_of w v) ≡ true → (b : Bool) → same_path (roots.dkms ++ w ∷ v ∷ codes "source" ∷ []) (roots.dkms ++ here) ≡ b → is_some (node_at new (link_path roots (key_of w v))) ≡ true → is_added roots (key_of w v) new ≡ true
       at_source w v named true e stands =
@@ -89,11 +89,11 @@ module _ (roots : Roots) (tree : Tree) where
           let w_is : w ≡ word = cc in
           let v_is : v ≡ version = cc in
           let texts : source_text roots (key_of w v) ≡ source_text roots (key_of word version) = ap (λ x. source_text roots (key_of x v)) w_is ∙ ap (λ x. source_text roots (key_of word x)) v_is in
-          ap (λ p. says (source_text roots (key_of w v)) (link_text (node_at new p))) (link_names roots (key_of w v)) ∙ ap (λ n. says (source_text roots (key_of w v)) (link_text n)) (put w v)
+          ap (λ n. says (source_text roots (key_of w v)) (link_text n)) (put w v)
           ∙ ap (λ b. says (source_text roots (key_of w v)) (link_text (cond b (Some at) (node_at tree (roots.dkms ++ w ∷ v ∷ codes "source" ∷ []))))) e
           ∙ (bytes_decides (source_text roots (key_of word version)) (source_text roots (key_of w v))).1 (sym texts)
       at_source w v named false e stands =
-          let same_node = ap (node_at new) (link_names roots (key_of w v)) ∙ put w v ∙ ap (λ b. cond b (Some at) (node_at tree (roots.dkms ++ w ∷ v ∷ codes "source" ∷ []))) e ∙ sym (ap (node_at tree) (link_names roots (key_of w v))) in
+          let same_node = put w v ∙ ap (λ b. cond b (Some at) (node_at tree (roots.dkms ++ w ∷ v ∷ codes "source" ∷ []))) e in
           ap (λ n. says (source_text roots (key_of w v)) (link_text n)) same_node ∙ s.sources w v named (ap is_some (sym same_node) ∙ stands)
 
   -- a build's `targets` comes to stand, behind its files
@@ -121,7 +121,7 @@ module _ (roots : Roots) (tree : Tree) where
       new = with_node (roots.dkms ++ here) at tree
 
       source_same : (w v : List ℕ) → node_at new (link_path roots (key_of w v)) ≡ node_at tree (link_path roots (key_of w v))
-      source_same w v = ap (node_at new) (link_names roots (key_of w v)) ∙ other here at (w ∷ v ∷ codes "source" ∷ []) (λ e. cc) ∙ sym (ap (node_at tree) (link_names roots (key_of w v)))
+      source_same w v = other here at (w ∷ v ∷ codes "source" ∷ []) (λ e. cc)
 
       no_module : bytes_eq (codes "module") (codes "targets") ≡ false
       no_module = refl
@@ -170,12 +170,12 @@ module _ (roots : Roots) (tree : Tree) where
       → IsSound roots tree → IsSound roots (with_node (kernel_link_path roots word (spot_of kernel arch)) (node.Link (kernel_link_text version (spot_of kernel arch))) tree)
   link_put word version kernel arch named_version spotted_here built s = record {
     sources = λ w v named stands.
-        let e = ap (node_at new) (link_names roots (key_of w v)) ∙ other here at (w ∷ v ∷ codes "source" ∷ []) (λ e. cc) ∙ sym (ap (node_at tree) (link_names roots (key_of w v))) in
+        let e = other here at (w ∷ v ∷ codes "source" ∷ []) (λ e. cc) in
         ap (λ n. says (source_text roots (key_of w v)) (link_text n)) e ∙ s.sources w v named (ap is_some (sym e) ∙ stands);
     boxes = λ w v k a named spotted stands.
         let e = other here at (w ∷ v ∷ k ∷ a ∷ codes "targets" ∷ []) (λ e. cc) in
         let b = s.boxes w v k a named spotted (ap is_some (sym e) ∙ stands) in
-        let source = ap (node_at new) (link_names roots (key_of w v)) ∙ other here at (w ∷ v ∷ codes "source" ∷ []) (λ e. cc) ∙ sym (ap (node_at tree) (link_names roots (key_of w v))) in
+        let source = other here at (w ∷ v ∷ codes "source" ∷ []) (λ e. cc) in
         box-so roots tree new (key_of w v) (spot_of k a) (ap is_some source ∙ b.stands) e (λ place file. ap is_file (other here at (w ∷ v ∷ k ∷ a ∷ codes "module" ∷ last_name place ∷ []) (λ e. cc)) ∙ file) b;
     links = λ w name link_spot named told stands. at_link w name link_spot named told (same_path (roots.dkms ++ w ∷ name ∷ []) (roots.dkms ++ here)) refl stands;
   }

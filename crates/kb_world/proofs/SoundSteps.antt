@@ -43,10 +43,9 @@ pub add_sound : (roots : Roots) (key : Key) (store : Tree) → is_key key ≡ tr
 unfolding add_step
 add_sound roots key store named s =
     let version = second_so (is_word key.module) (is_version key.version) named in
-    let there : version_path roots key ≡ roots.dkms ++ key.module ∷ key.version ∷ [] = append_assoc roots.dkms (key.module ∷ []) (key.version ∷ []) in
     let once = directory_aside roots (IsSound roots) (spared_sound roots) (module_path roots key) store (aside-of roots (key.module ∷ []) refl) s in
     let twice = directory_aside roots (IsSound roots) (spared_sound roots) (version_path roots key) (with_directory (module_path roots key) store)
-    (subst (IsAside roots) (sym there) (aside-of roots (key.module ∷ key.version ∷ []) (tells_version key.module key.version version))) once in
+    (aside-of roots (key.module ∷ key.version ∷ []) (tells_version key.module key.version version)) once in
     source_put roots (with_directory (version_path roots key) (with_directory (module_path roots key) store)) key.module key.version twice
 
 -- ---- Build

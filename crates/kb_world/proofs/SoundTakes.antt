@@ -13,7 +13,7 @@ use Rattle.kb_world.specs.Steps.{cleared}
 use Rattle.kb_world.specs.declared.roots.Roots.{Roots}
 use Rattle.kb_world.specs.declared.job.Spot.{Spot}
 use Rattle.kb_world.proofs.PathLaws.{under-beside, by_test}
-use Rattle.kb_world.proofs.DamageLaws.{spot_of, IsSound, link_names, under-split}
+use Rattle.kb_world.proofs.DamageLaws.{spot_of, IsSound, under-split}
 use Rattle.kb_world.proofs.SoundEdits.{node_at-cleared}
 use Rattle.kb_world.proofs.SoundPuts.{box-so, built-so, link-so}
 use Rattle.kb_world.proofs.SpotLaws.{kernel_no_source, link_spotted, link_named}
@@ -58,7 +58,7 @@ pub source_gone : (roots : Roots) (word version : List ℕ) (tree : Tree) → Ha
     → IsSound roots (cleared (below_entry roots (word ∷ version ∷ codes "source" ∷ [])) tree)
 source_gone roots word version tree unbuilt s = record {
   sources = λ w v named stands.
-      let here = ap (λ p. is_some (node_at new p)) (sym (link_names roots (key_of w v))) ∙ stands in
+      let here = stands in
       let e = source_same w v (left-stands roots names tree (w ∷ v ∷ codes "source" ∷ []) here) in
       ap (λ n. says (source_text roots (key_of w v)) (link_text n)) e ∙ s.sources w v named (ap is_some (sym e) ∙ stands);
   boxes = λ w v k a named spotted stands.
@@ -91,7 +91,7 @@ source_gone roots word version tree unbuilt s = record {
     new = cleared (below_entry roots names) tree
 
     source_same : (w v : List ℕ) → is_under (w ∷ v ∷ codes "source" ∷ []) names ≡ false → node_at new (link_path roots (key_of w v)) ≡ node_at tree (link_path roots (key_of w v))
-    source_same w v apart = ap (node_at new) (link_names roots (key_of w v)) ∙ left-apart roots names tree (w ∷ v ∷ codes "source" ∷ []) apart ∙ sym (ap (node_at tree) (link_names roots (key_of w v)))
+    source_same w v apart = left-apart roots names tree (w ∷ v ∷ codes "source" ∷ []) apart
 
 -- ---- a build
 
@@ -135,7 +135,7 @@ box_gone roots word version kernel arch tree unlinked s = record {
     short_source w v = by_test (is_under (w ∷ v ∷ codes "source" ∷ []) names) (λ e. let split = under-split (w ∷ v ∷ codes "source" ∷ []) names e in cc)
 
     source_same : (w v : List ℕ) → node_at new (link_path roots (key_of w v)) ≡ node_at tree (link_path roots (key_of w v))
-    source_same w v = ap (node_at new) (link_names roots (key_of w v)) ∙ left-apart roots names tree (w ∷ v ∷ codes "source" ∷ []) (short_source w v) ∙ sym (ap (node_at tree) (link_names roots (key_of w v)))
+    source_same w v = left-apart roots names tree (w ∷ v ∷ codes "source" ∷ []) (short_source w v)
 
     -- a link that says a build that goes would say the version
     linked : (w name : List ℕ) (link_spot : Spot) → spot_of_link name ≡ Some link_spot → (v : List ℕ) → option_and_then (version_of link_spot) (link_text (node_at tree (roots.dkms ++ w ∷ name ∷ []))) ≡ Some v

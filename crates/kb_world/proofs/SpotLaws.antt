@@ -12,12 +12,12 @@ use Rattle.std.specs.Str.{byte}
 use Rattle.kb_world.specs.Names.{is_word, is_version, is_kernel, is_arch, is_one_of}
 use Rattle.kb_world.specs.Boxes.{is_spot, kernel_link_name, cut_with, cut_at_dash, spot_if, spot_of_link, spot_tail, kernel_link_text, version_of}
 use Rattle.kb_world.specs.declared.job.Spot.{Spot}
-use Rattle.kb_world.proofs.DamageLaws.{spot_of}
+use Rattle.kb_world.specs.StorePath.{spot_of}
 
 abbrev DASH : ℕ
 DASH = byte "-"
 
-not_true : (b : Bool) → not b ≡ true → b ≡ false
+pub not_true : (b : Bool) → not b ≡ true → b ≡ false
 not_true true h = let impossible : true ≡ false = sym h in cc
 not_true false h = refl
 
@@ -28,6 +28,10 @@ version_no_link version h =
 
 pub kernel_no_source : (kernel : List ℕ) → is_kernel kernel ≡ true → bytes_eq kernel (codes "source") ≡ false
 kernel_no_source kernel h = not_true (bytes_eq kernel (codes "source")) (second_so (is_word kernel && not (bytes_eq kernel (codes "build"))) (not (bytes_eq kernel (codes "source"))) h)
+
+pub kernel_no_build : (kernel : List ℕ) → is_kernel kernel ≡ true → bytes_eq kernel (codes "build") ≡ false
+kernel_no_build kernel h =
+    not_true (bytes_eq kernel (codes "build")) (second_so (is_word kernel) (not (bytes_eq kernel (codes "build"))) (first_so (is_word kernel && not (bytes_eq kernel (codes "build"))) (not (bytes_eq kernel (codes "source"))) h))
 
 -- ---- cut at the last dash
 

@@ -1,29 +1,27 @@
 -- The builds, the installed versions and the kept files of a store. After the tool dkms, and this project's own.
-use Rattle.std.specs.Prelude.{ℕ, ◌-◌, Bool, ◌&&◌, cond, List, [], ◌∷◌, ◌++◌, length, take, drop, nat_eq, Option, Some, None, is_some, codes, bytes_eq, option_and_then}
-use Rattle.std.specs.List.{list_all, starts_with}
+use Rattle.std.specs.Prelude.{ℕ, ◌-◌, Bool, ◌&&◌, cond, List, [], ◌∷◌, ◌++◌, length, take, Option, Some, None, is_some, codes, bytes_eq, option_and_then}
+use Rattle.std.specs.List.{list_all}
 use Rattle.std.specs.FinMap.{retain_keys}
-use Rattle.std.specs.Str.{byte}
-use Rattle.kb_world.specs.Names.{is_kernel, is_arch, is_version}
+use Rattle.kb_world.specs.Names.{is_version}
 use Rattle.kb_world.specs.Path.{Path, is_under}
+use Rattle.kb_world.specs.StorePath.{path_of}
 use Rattle.kb_world.specs.Tree.{Tree, node_at, is_file, link_text, file_bytes}
 use Rattle.kb_world.specs.Store.{is_added}
 use Rattle.kb_world.specs.Targets.{last_name, targets_of}
 use Rattle.kb_world.specs.declared.roots.Roots.{Roots}
 use Rattle.kb_world.specs.declared.job.Key.{Key}
 use Rattle.kb_world.specs.declared.job.Spot.{Spot}
-
--- a kernel and an architecture that keep their rules
-abbrev pub is_spot : Spot → Bool
-is_spot spot = is_kernel spot.kernel && is_arch spot.arch
+use Rattle.kb_world.specs.declared.store_path.StorePath.TheVariants.{Targets, InBox, KernelLink, InChest}
+pub use Rattle.kb_world.specs.StorePath.{key_of, spot_of, is_spot, kernel_link_name, cut_with, cut_at_dash, spot_if, spot_of_link}
 
 -- ---- builds
 
 -- below the directory of a version's build for a spot
 abbrev pub in_box : Roots → Key → Spot → Path → Path
-in_box roots key spot names = roots.dkms ++ key.module ∷ key.version ∷ spot.kernel ∷ spot.arch ∷ names
+in_box roots key spot names = path_of roots (InBox key spot names)
 
 abbrev pub targets_path : Roots → Key → Spot → Path
-targets_path roots key spot = in_box roots key spot (codes "targets" ∷ [])
+targets_path roots key spot = path_of roots (Targets key spot)
 
 -- the built module for a place
 abbrev pub module_file : Roots → Key → Spot → Path → Path
@@ -54,30 +52,8 @@ box roots store key spot = retain_keys store (λ path. is_under path (in_box roo
 
 -- ---- installed versions
 
--- `kernel-K-A`
-abbrev pub kernel_link_name : Spot → List ℕ
-kernel_link_name spot = codes "kernel-" ++ spot.kernel ++ codes "-" ++ spot.arch
-
--- a byte before what is cut at its last dash, or cut there itself
-abbrev pub cut_with : ℕ → List ℕ → Option (List ℕ × List ℕ) → Option (List ℕ × List ℕ)
-cut_with c rest (Some cut) = Some (c ∷ cut.0, cut.1)
-cut_with c rest None = cond (nat_eq c (byte "-")) (Some ([], rest)) None
-
--- what stands before and after the last dash
-abbrev pub cut_at_dash : List ℕ → Option (List ℕ × List ℕ)
-cut_at_dash [] = None
-cut_at_dash (c ∷ rest) = cut_with c rest (cut_at_dash rest)
-
--- the kernel and the architecture that the cut gives, where they keep their rules
-abbrev pub spot_if : List ℕ × List ℕ → Option Spot
-spot_if cut = cond (is_kernel cut.0 && is_arch cut.1) (Some (record { kernel = cut.0; arch = cut.1 })) None
-
--- the spot whose link would have this name
-abbrev pub spot_of_link : List ℕ → Option Spot
-spot_of_link name = cond (starts_with nat_eq name (codes "kernel-")) (option_and_then spot_if (cut_at_dash (drop 7 name))) None
-
 abbrev pub kernel_link_path : Roots → List ℕ → Spot → Path
-kernel_link_path roots word spot = roots.dkms ++ word ∷ kernel_link_name spot ∷ []
+kernel_link_path roots word spot = path_of roots (KernelLink word spot)
 
 -- `/K/A`
 abbrev pub spot_tail : Spot → List ℕ
@@ -94,9 +70,6 @@ version_of spot text = by (take (length text - length (spot_tail spot)) text)
     by : List ℕ → Option (List ℕ)
     by version = cond (bytes_eq text (kernel_link_text version spot) && is_version version) (Some version) None
 
-abbrev pub key_of : List ℕ → List ℕ → Key
-key_of word version = record { «module» = word; version = version }
-
 -- the version that a link says, where that is built for the spot
 abbrev pub linked_at : Roots → Tree → Path → List ℕ → Spot → Option (List ℕ)
 linked_at roots store path word spot =
@@ -111,4 +84,4 @@ installed roots store word spot =
 
 -- the directory with the files that a module displaced for a spot
 abbrev pub chest_path : Roots → List ℕ → Spot → Path
-chest_path roots word spot = roots.dkms ++ word ∷ codes "original_module" ∷ spot.kernel ∷ spot.arch ∷ []
+chest_path roots word spot = path_of roots (InChest word spot [])

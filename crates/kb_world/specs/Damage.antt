@@ -1,15 +1,17 @@
 -- What is damaged in a store, and which damaged path is answered. This project's own.
-use Rattle.std.specs.Prelude.{ℕ, Bool, ◌&&◌, not, cond, List, [], ◌∷◌, ◌++◌, length, drop, map, filter, flat_map, Option, Some, None, is_some, codes, bytes_eq}
+use Rattle.std.specs.Prelude.{ℕ, Bool, not, cond, List, [], ◌∷◌, ◌++◌, map, filter, flat_map, Option, Some, None, is_some}
 use Rattle.std.specs.FinMap.{keys}
 use Rattle.std.specs.Ordering.{is_lt}
-use Rattle.kb_world.specs.Names.{is_word}
-use Rattle.kb_world.specs.Path.{Path, path_cmp, is_under}
+use Rattle.kb_world.specs.Path.{Path, path_cmp}
+use Rattle.kb_world.specs.StorePath.{store_path}
 use Rattle.kb_world.specs.Tree.{Tree, node_at, is_file}
-use Rattle.kb_world.specs.Store.{is_key, is_added, link_path}
-use Rattle.kb_world.specs.Boxes.{is_spot, targets_path, module_file, places_at, spot_of_link, linked_at, key_of}
+use Rattle.kb_world.specs.Store.{is_added, link_path}
+use Rattle.kb_world.specs.Boxes.{targets_path, module_file, places_at, kernel_link_path, linked_at}
 use Rattle.kb_world.specs.declared.roots.Roots.{Roots}
 use Rattle.kb_world.specs.declared.job.Key.{Key}
 use Rattle.kb_world.specs.declared.job.Spot.{Spot}
+use Rattle.kb_world.specs.declared.store_path.StorePath.{StorePath}
+use Rattle.kb_world.specs.declared.store_path.StorePath.TheVariants.{SourceLink, Targets, KernelLink}
 
 -- the path, unless the test holds
 abbrev pub unless_sound : Bool → Path → List Path
@@ -30,24 +32,22 @@ box_harm roots store key spot =
     unless_sound (is_some (node_at store (link_path roots key))) (link_path roots key) ++ files_harm roots store key spot (places_at roots store key spot)
 
 -- of what stands at a spot's link: it is damaged where it isn't a link to a build of its module for that spot
-abbrev pub link_harm : Roots → Tree → Path → List ℕ → Option Spot → List Path
-link_harm roots store path word None = []
-link_harm roots store path word (Some spot) = unless_sound (is_some (linked_at roots store path word spot)) path
+abbrev pub link_harm : Roots → Tree → List ℕ → Spot → List Path
+link_harm roots store word spot = unless_sound (is_some (linked_at roots store (kernel_link_path roots word spot) word spot)) (kernel_link_path roots word spot)
 
--- the damaged paths that what stands at a path tells of, by the names of that path below the dkms root
-abbrev pub harm_below : Roots → Tree → Path → List Path
-harm_below roots store [] = []
-harm_below roots store (word ∷ []) = []
-harm_below roots store (word ∷ name ∷ []) = cond (is_word word) (link_harm roots store (roots.dkms ++ word ∷ name ∷ []) word (spot_of_link name)) []
-harm_below roots store (word ∷ version ∷ name ∷ []) = cond (is_key (key_of word version) && bytes_eq name (codes "source")) (source_harm roots store (key_of word version)) []
-harm_below roots store (word ∷ version ∷ kernel ∷ arch ∷ []) = []
-harm_below roots store (word ∷ version ∷ kernel ∷ arch ∷ name ∷ []) =
-    cond (is_key (key_of word version) && is_spot (record { kernel = kernel; arch = arch }) && bytes_eq name (codes "targets"))
-    (box_harm roots store (key_of word version) (record { kernel = kernel; arch = arch })) []
-harm_below roots store (word ∷ version ∷ kernel ∷ arch ∷ name ∷ more ∷ rest) = []
+-- the damaged paths that what stands at such a path tells of
+abbrev pub harm_by : Roots → Tree → StorePath → List Path
+harm_by roots store (SourceLink key) = source_harm roots store key
+harm_by roots store (Targets key spot) = box_harm roots store key spot
+harm_by roots store (KernelLink word spot) = link_harm roots store word spot
+harm_by roots store other = []
+
+abbrev pub harm_of : Roots → Tree → Option StorePath → List Path
+harm_of roots store None = []
+harm_of roots store (Some place) = harm_by roots store place
 
 abbrev pub harm_at : Roots → Tree → Path → List Path
-harm_at roots store path = cond (is_under path roots.dkms) (harm_below roots store (drop (length roots.dkms) path)) []
+harm_at roots store path = harm_of roots store (store_path roots path)
 
 -- the least path
 abbrev pub least : List Path → Option Path

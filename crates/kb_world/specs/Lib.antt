@@ -17,6 +17,7 @@ pub mod SinkState
 pub mod State
 pub mod Steps
 pub mod Stop
+pub mod StorePath
 pub mod Store
 pub mod Targets
 pub mod Tree

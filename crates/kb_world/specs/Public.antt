@@ -1,9 +1,9 @@
 -- Which part of the tree is whose. This project's own.
-use Rattle.std.specs.Prelude.{◌+◌, Bool, false, ◌&&◌, ◌||◌, not, List, [], ◌∷◌, length, drop, nat_eq, Option, codes, bytes_eq}
+use Rattle.std.specs.Prelude.{◌+◌, Bool, ◌&&◌, ◌||◌, not, List, [], ◌∷◌, length, nat_eq, Option, codes}
 use Rattle.std.specs.List.{list_any}
 use Rattle.std.specs.FinMap.{retain_keys}
-use Rattle.kb_world.specs.Names.{is_word, is_version}
 use Rattle.kb_world.specs.Path.{Path, child, is_under}
+use Rattle.kb_world.specs.StorePath.{store_path, is_in_scratch}
 use Rattle.kb_world.specs.Tree.{Tree, node_at, is_dir}
 use Rattle.kb_world.specs.declared.roots.Roots.{Roots}
 use Rattle.kb_world.specs.declared.tree.Node.{Node}
@@ -21,16 +21,9 @@ private_places roots =
     intent_path roots ∷ child roots.dkms (codes ".intent.new") ∷ staging_path roots.dkms ∷ staging_path roots.src ∷ staging_path roots.modules
     ∷ staging_path roots.boot ∷ child roots.boot (codes ".kb-plugins") ∷ []
 
--- below the dkms root: the scratch tree MODULE/VERSION/build, and what is in it
-abbrev pub is_scratch : Path → Bool
-is_scratch (word ∷ version ∷ name ∷ rest) = is_word word && is_version version && bytes_eq name (codes "build")
-is_scratch (word ∷ version ∷ []) = false
-is_scratch (word ∷ []) = false
-is_scratch [] = false
-
--- what the tool keeps for itself
+-- what the tool keeps for itself: these, each version's scratch tree MODULE/VERSION/build, and what is in them
 abbrev pub is_private : Roots → Path → Bool
-is_private roots path = list_any (is_under path) (private_places roots) || is_under path roots.dkms && is_scratch (drop (length roots.dkms) path)
+is_private roots path = list_any (is_under path) (private_places roots) || is_in_scratch (store_path roots path)
 
 -- a file or a link directly in the boot root, as a kernel's image is
 abbrev pub is_loose : Roots → Path → Option Node → Bool

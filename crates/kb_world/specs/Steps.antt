@@ -3,18 +3,20 @@ use Rattle.std.specs.Prelude.{ℕ, Bool, false, ◌&&◌, ◌||◌, not, cond, L
 use Rattle.std.specs.List.{list_any}
 use Rattle.std.specs.Option.{option_or}
 use Rattle.std.specs.FinMap.{keys, remove, retain_keys}
-use Rattle.kb_world.specs.Names.{is_word}
 use Rattle.kb_world.specs.Path.{Path, child, is_under}
+use Rattle.kb_world.specs.StorePath.{store_path}
 use Rattle.kb_world.specs.Tree.{Tree, node_at, with_node, is_dir, is_file, file_bytes}
 use Rattle.kb_world.specs.TreeLaws.{same_path}
 use Rattle.kb_world.specs.Roots.{is_below}
 use Rattle.kb_world.specs.Store.{module_path, version_path, link_path, source_text, says}
 use Rattle.kb_world.specs.Targets.{last_name, targets_text}
-use Rattle.kb_world.specs.Boxes.{in_box, targets_path, module_file, places_at, boxed, kernel_link_name, spot_of_link, kernel_link_path, kernel_link_text, installed, key_of, chest_path}
+use Rattle.kb_world.specs.Boxes.{in_box, targets_path, module_file, places_at, boxed, kernel_link_name, kernel_link_path, kernel_link_text, installed, key_of, chest_path}
 use Rattle.kb_world.specs.Damage.{least}
 use Rattle.kb_world.specs.declared.roots.Roots.{Roots}
 use Rattle.kb_world.specs.declared.job.Key.{Key}
 use Rattle.kb_world.specs.declared.job.Spot.{Spot}
+use Rattle.kb_world.specs.declared.store_path.StorePath.{StorePath}
+use Rattle.kb_world.specs.declared.store_path.StorePath.TheVariants.{KernelLink}
 use Rattle.kb_world.specs.declared.tree.Node.{Node}
 use Rattle.kb_world.specs.declared.tree.Node.TheVariants as node
 
@@ -113,23 +115,14 @@ in_kernel roots kernel names = roots.modules ++ kernel ∷ names
 abbrev pub installed_places : Roots → Tree → List ℕ → Spot → List Path
 installed_places roots store word spot = map (in_kernel roots spot.kernel) (unwrap_or (option_and_then (λ version. boxed roots store (key_of word version) spot) (installed roots store word spot)) [])
 
--- the same of the link that stands at a path, by its names below the dkms root
-abbrev pub places_by_link : Roots → Tree → Path → List Path
-places_by_link roots store path = cond (is_under path roots.dkms) (by_names (drop (length roots.dkms) path)) []
-  where
-    by_spot : List ℕ → Option Spot → List Path
-    by_spot word None = []
-    by_spot word (Some spot) = installed_places roots store word spot
-
-    by_names : Path → List Path
-    by_names [] = []
-    by_names (word ∷ []) = []
-    by_names (word ∷ name ∷ []) = cond (is_word word) (by_spot word (spot_of_link name)) []
-    by_names (word ∷ name ∷ more ∷ rest) = []
+-- the same of the link that stands at such a path
+abbrev pub places_by : Roots → Tree → Option StorePath → List Path
+places_by roots store (Some (KernelLink word spot)) = installed_places roots store word spot
+places_by roots store other = []
 
 -- every installed place
 abbrev pub all_installed_places : Roots → Tree → List Path
-all_installed_places roots store = flat_map (places_by_link roots store) (keys store)
+all_installed_places roots store = flat_map (λ path. places_by roots store (store_path roots path)) (keys store)
 
 -- a regular file below the kernel's directory that has the last name of a place and isn't an installed place
 abbrev pub is_displaced : Roots → Tree → List ℕ → List Path → Path → Bool

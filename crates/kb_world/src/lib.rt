@@ -6,14 +6,18 @@
 mod child;
 mod job;
 mod laws;
+mod links;
 mod names;
+mod package_paths;
 mod path;
 mod refusal;
+mod rel_path;
 mod roots;
 mod sequence;
 mod sink;
 mod stop;
 mod store_laws;
+mod store_path;
 mod text;
 mod tree;
 mod whose;
@@ -25,11 +29,15 @@ pub use laws::add_adds_one_package;
 pub use names::{is_arch, is_boot_word, is_kernel, is_name, is_version, is_word};
 pub use path::{Path, PathError, text_tells_path};
 pub use refusal::{Refusal, bad_boot_line, bad_root_line, fault_line, message, no_memory_line};
+pub use rel_path::RelPath;
 pub use roots::Roots;
 pub use sequence::Sequence;
 pub use sink::{Sink, SinkError};
 pub use stop::Stop;
-pub use store_laws::{layout_is_the_store, no_step_damages, targets_are_read_back};
+pub use store_laws::{
+    layout_is_the_store, no_step_damages, store_paths_are_read_back, targets_are_read_back,
+};
+pub use store_path::StorePath;
 pub use text::{Bytes, Text, Texts};
 pub use tree::{Edit, Kind, Node};
 pub use whose::{is_index, is_private};

@@ -1,5 +1,5 @@
 // Paths of the tree, as lists of names from the root.
-ghost use Rattle.std.specs.Prelude.{◌≡◌, ◌≢◌, ◌==◌, List, ℕ, [], ◌∷◌, IfOk, IfSome, IsErrOf, IsTrue, MatchOption, Some, true, false, drop, length, map, refl, nat_eq};
+ghost use Rattle.std.specs.Prelude.{◌≡◌, ◌≢◌, ◌==◌, List, ℕ, [], ◌∷◌, ◌++◌, IfOk, IfSome, IsErrOf, IsTrue, MatchOption, Some, true, false, drop, length, map, refl, nat_eq};
 ghost use Rattle.std.specs.List.{slice_split};
 ghost use Rattle.std.specs.Str.{byte};
 ghost use Rattle.std.specs.Ordering.{nat_cmp};
@@ -146,6 +146,28 @@ impl Path {
         let mut made = self.clone()?;
         made.names.push(Text::of(alloc, name)?)?;
         Ok(made)
+    }
+
+    /// The path two names below this directory.
+    pub fn descend(&self, alloc: Global, name: &Text, next: &Text) -> Result<Path, AllocError>
+        requires first { IsTrue (is_name name.now) }
+        requires second { IsTrue (is_name next.now) }
+        ensures { IfOk result (λ made. made ≡ self.now ++ name.now ∷ next.now ∷ []) }
+    {
+        self.child(alloc, name.as_str())?
+            .child(alloc, next.as_str())
+    }
+
+    /// The path with these names below this directory.
+    pub fn join(&self, alloc: Global, names: &[Text]) -> Result<Path, AllocError>
+        requires { IsPath names.now }
+        ensures { IfOk result (λ made. made ≡ self.now ++ names.now) }
+    {
+        let mut all = self.names().to_vec(alloc)?;
+        for name in names {
+            all.push(name.clone()?)?;
+        }
+        Ok(Path { names: all })
     }
 
     /// The path of the directory that the path stands in; the root's is the root.

@@ -5,6 +5,7 @@ ghost use Rattle.kb_world.specs.Tree.{Tree};
 ghost use Rattle.kb_world.specs.Roots.{AreApart};
 ghost use Rattle.kb_world.specs.Store.{is_key, is_added};
 ghost use Rattle.kb_world.specs.Layout.{layout};
+ghost use Rattle.kb_world.specs.StorePath.{store_path, path_of, is_ruled};
 ghost use Rattle.kb_world.specs.Targets.{are_targets, targets_text, targets_of};
 ghost use Rattle.kb_world.specs.Boxes.{is_spot, is_built};
 ghost use Rattle.kb_world.specs.Damage.{hurt};
@@ -12,12 +13,20 @@ ghost use Rattle.kb_world.specs.Steps.{Module, add_step, build_step, install_ste
 ghost use Rattle.kb_world.specs.declared.roots.Roots.{Roots};
 ghost use Rattle.kb_world.specs.declared.job.Key.{Key};
 ghost use Rattle.kb_world.specs.declared.job.Spot.{Spot};
+ghost use Rattle.kb_world.specs.declared.store_path.StorePath.{StorePath};
 
 /// A text is in the format of the file `targets` exactly where it is the text of places that a build may have, and
 /// then it gives these: what is written is read back.
 pub fn targets_are_read_back()
     ensures read { (text : List ℕ) (places : List Path) → targets_of text ≡ Some places → (are_targets places ≡ true) × (targets_text places ≡ text) }
     ensures printed { (places : List Path) → are_targets places ≡ true → targets_of (targets_text places) ≡ Some places }
+{}
+
+/// The map of the dkms root goes both ways: what a path is for has that path, and the path that is for something is read
+/// as that.
+pub fn store_paths_are_read_back()
+    ensures told { (roots : Roots) (path : Path) (place : StorePath) → store_path roots path ≡ Some place → (is_ruled place ≡ true) × (path_of roots place ≡ path) }
+    ensures made { (roots : Roots) (place : StorePath) → is_ruled place ≡ true → store_path roots (path_of roots place) ≡ Some place }
 {}
 
 /// The layout of a store, the union of its source links, its boxes, its kernel links, its chests and its rest, is the

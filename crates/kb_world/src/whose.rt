@@ -1,8 +1,10 @@
 // Whose a path is, told by the path alone. These tests take no memory.
-ghost use Rattle.std.specs.Prelude.{◌≡◌, ◌&&◌, ◌||◌, drop, length, bytes_eq, codes};
+ghost use Rattle.std.specs.Prelude.{◌≡◌, ◌&&◌, bytes_eq, codes};
 ghost use Rattle.std.specs.List.{list_any};
+ghost use Rattle.kb_world.specs.Names as rule;
 ghost use Rattle.kb_world.specs.Path.{child, is_under};
 ghost use Rattle.kb_world.specs.Public as public;
+ghost use Rattle.kb_world.specs.StorePath.{told_by, store_path, is_in_scratch};
 ghost use Rattle.kb_world.specs.View as view;
 
 use crate::names::{is_kernel, is_version, is_word};
@@ -23,21 +25,26 @@ fn is_under_entry(path: &Path, directory: &Path, name: &str) -> bool
     }
 }
 
+// Whether they are the names of a version's scratch tree.
+fn are_scratch(module: &Text, version: &Text, name: &Text) -> bool
+    ensures { result ≡ (rule.is_word «module».now && rule.is_version version.now && bytes_eq name.now (codes "build")) }
+{
+    is_word(module.as_str()) && is_version(version.as_str()) && name.as_str() == "build"
+}
+
 fn is_scratch(names: &[Text]) -> bool
-    ensures { result ≡ public.is_scratch names.now }
+    ensures { result ≡ is_in_scratch (told_by names.now) }
 {
     match names {
-        [module, version, name, ..] => {
-            is_word(module.as_str()) && is_version(version.as_str()) && name.as_str() == "build"
-        }
+        [module, version, name, ..] => are_scratch(module, version, name),
         _ => false,
     }
 }
 
-fn is_in_scratch(path: &Path, dkms: &Path) -> bool
-    ensures { result ≡ (is_under path.now dkms.now && public.is_scratch (drop (length dkms.now) path.now)) }
+fn is_in_scratch(roots: &Roots, path: &Path) -> bool
+    ensures { result ≡ is_in_scratch (store_path roots.now path.now) }
 {
-    match path.below(dkms) {
+    match path.below(&roots.dkms) {
         Some(names) => is_scratch(names),
         None => false,
     }
@@ -61,7 +68,7 @@ fn is_in_private_place(roots: &Roots, path: &Path) -> bool
 pub fn is_private(roots: &Roots, path: &Path) -> bool
     ensures { result ≡ public.is_private roots.now path.now }
 {
-    is_in_private_place(roots, path) || is_in_scratch(path, &roots.dkms)
+    is_in_private_place(roots, path) || is_in_scratch(roots, path)
 }
 
 fn is_index_name(name: &str) -> bool

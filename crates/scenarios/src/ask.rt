@@ -1,4 +1,7 @@
 // What is asked of a text alone: whether it keeps rules, and what it is read as.
+ghost use Rattle.std.specs.Option.{ForSome};
+ghost use Rattle.std.specs.Prelude.{IsTrue};
+ghost use Rattle.kb_world.specs.Names.{is_name};
 
 use crate::entry::{print_entry_name, print_parsed, print_sorted};
 use crate::error::LineError;
@@ -177,13 +180,17 @@ fn known_arch(alloc: Global, arch: &Text) -> Result<Text, AllocError> {
     }
 }
 
+fn known_kernel(kernel: &Option<Text>) -> Option<&Text>
+    ensures { ForSome result (λ name. IsTrue (is_name name.now)) }
+{
+    match kernel {
+        Some(kernel) if is_kernel(kernel.as_str()) => Some(kernel),
+        _ => None,
+    }
+}
+
 /// What a conf is read for on the machine, whose kernel and architecture count where they keep their rules.
 pub fn given_for(alloc: Global, host: &Host) -> Result<Given, AllocError> {
     let arch = known_arch(alloc, &host.arch)?;
-    match &host.kernel {
-        Some(kernel) if is_kernel(kernel.as_str()) => {
-            Given::of(alloc, &host.roots, Some(kernel), &arch)
-        }
-        _ => Given::of(alloc, &host.roots, None, &arch),
-    }
+    Given::of(alloc, &host.roots, known_kernel(&host.kernel), &arch)
 }

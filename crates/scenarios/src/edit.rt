@@ -1,8 +1,11 @@
 // Edits of the world from outside.
+ghost use Rattle.std.specs.Prelude.{◌≡◌, IfOk, IsTrue};
+ghost use Rattle.kb_world.specs.Tree.{IsEmptyDir, node_at, is_dir};
+ghost use Rattle.kb_memory.specs.World.{tree_of};
 
 use crate::error::LineError;
 use kb_memory::MemoryWorld;
-use kb_world::{Bytes, Node, Path, Text, World, is_name};
+use kb_world::{Bytes, Node, Path, Text, World, WorldError, is_name};
 use std::alloc::Global;
 
 // Makes the directory of this name where nothing stands, and refuses anything else there.
@@ -126,13 +129,25 @@ fn put_empty(
     put(alloc, world, &path, Node::File { bytes, exec: false })
 }
 
-// Takes away an empty directory.
-fn remove_dir(alloc: Global, world: &mut MemoryWorld, path: &Path) -> Result<(), LineError> {
-    match world.node(path) {
-        Some(Node::Dir) => {}
-        _ => return Err(LineError::Absent),
+fn is_dir(world: &MemoryWorld, path: &Path) -> bool
+    ensures { result ≡ is_dir (node_at (tree_of world.now) path.now) }
+{
+    matches!(world.node(path), Some(Node::Dir))
+}
+
+// Whether an empty directory stands at the path.
+fn is_empty_dir(alloc: Global, world: &mut MemoryWorld, path: &Path) -> Result<bool, WorldError>
+    ensures { IfOk result (λ empty. IsTrue empty → IsEmptyDir (tree_of world.new) path.now) }
+{
+    if !is_dir(world, path) {
+        return Ok(false);
     }
-    if !world.list(alloc, path)?.is_empty() || path.names().is_empty() {
+    Ok(world.list(alloc, path)?.is_empty())
+}
+
+// Takes away an empty directory, but not the root.
+fn remove_dir(alloc: Global, world: &mut MemoryWorld, path: &Path) -> Result<(), LineError> {
+    if path.names().is_empty() || !is_empty_dir(alloc, world, path)? {
         return Err(LineError::NotEmpty);
     }
     Ok(world.remove_dir(alloc, path)?)

@@ -1,7 +1,8 @@
--- The names below the dkms root are behind its own.
-use Rattle.std.proofs.Common.{◌∙◌, ◌++◌, sym, ap}
-use Rattle.kb_world.proofs.DamageLaws.{under-split}
+-- What is noted at a path is told by what the path is for.
+use Rattle.std.proofs.Common.{sym, ◌∙◌}
+use Rattle.kb_store.proofs.NotesOfPlaces.{told_as, noted_place}
 use Rattle.kb_store.proofs.notes.note.Goals as goal
 
-pub note_below-requires : goal.note_below-requires
-note_below-requires g c = under-split c.args.path.now c.args.roots.now.dkms c.in-Some.ensures.names.0 ∙ ap (λ n. c.args.roots.now.dkms ++ n) (sym c.in-Some.ensures.names.1)
+pub returns-in-Some-clause-noted : goal.returns-in-Some-clause-noted
+returns-in-Some-clause-noted g c =
+    told_as c.note_place.result _ _ _ _ c.note_place.ensures.noted (λ tree. noted_place c.args.roots.now tree c.args.notes.now c.args.path.now c.in-Some.place (sym c.in_ok-place.ensures.told ∙ c.in-Some.is))

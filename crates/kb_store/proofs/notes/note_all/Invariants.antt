@@ -1,4 +1,4 @@
-use Rattle.kb_store.proofs.NotingLaws.{HasNoted}
+use Rattle.kb_store.proofs.NotingLoops.{HasNoted}
 use Rattle.kb_store.proofs.notes.note_all.Given as goal
 
 abbrev pub invariant-loop-entry : goal.invariant-loop-entry

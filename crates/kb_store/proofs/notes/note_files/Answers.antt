@@ -1,7 +1,7 @@
 -- The file of one more place.
 use Rattle.std.proofs.Common.{◌∙◌, ◌++◌, ◌∷◌, [], Ok, take, sym, ap}
 use Rattle.std.proofs.lemmas.List.{take_more}
-use Rattle.kb_store.proofs.NotingLaws.{files_more}
+use Rattle.kb_store.proofs.NotingLoops.{files_more}
 use Rattle.kb_store.proofs.notes.note_files.Goals as goal
 
 pub loop-place-preserved : goal.loop-place-preserved

@@ -1,4 +1,4 @@
-use Rattle.kb_store.proofs.NotingLaws.{HasNotedFiles}
+use Rattle.kb_store.proofs.NotingLoops.{HasNotedFiles}
 use Rattle.kb_store.proofs.notes.note_files.Given as goal
 
 abbrev pub invariant-loop-place : goal.invariant-loop-place

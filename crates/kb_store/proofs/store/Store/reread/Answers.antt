@@ -8,7 +8,7 @@ use Rattle.kb_store.specs.Read.{paths_met}
 use Rattle.kb_store.specs.declared.notes.Notes.{Notes}
 use Rattle.kb_store.specs.declared.walking.Met.{Met}
 use Rattle.kb_store.proofs.PublicNotes.{hurt_public, store_public}
-use Rattle.kb_store.proofs.TellLaws.{noted_all_is}
+use Rattle.kb_store.proofs.NotesOfLists.{noted_all_is}
 use Rattle.kb_store.proofs.ReadingLaws.{gives_read, looks_twice}
 use Rattle.kb_store.proofs.store.Store.reread.Goals as goal
 
