@@ -7,11 +7,11 @@ use crate::error::LineError;
 use crate::line::Ask;
 use crate::text::Page;
 use kb_conf::{Assignment, Given, ReadError, is_pattern, matches, read_text, without_returns};
-use kb_store::{RelPath, read_targets};
+use kb_store::read_targets;
 use kb_version::version_cmp;
 use kb_world::{
-    Bytes, Host, Path, PathError, Text, is_arch, is_boot_word, is_kernel, is_name, is_version,
-    is_word,
+    Bytes, Host, Path, PathError, RelPath, Text, is_arch, is_boot_word, is_kernel, is_name,
+    is_version, is_word,
 };
 use std::alloc::{AllocError, Global};
 use std::cmp::Ordering;
