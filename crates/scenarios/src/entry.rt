@@ -86,7 +86,7 @@ fn entry_of(
 fn entries_of(alloc: Global, words: &[Text]) -> Result<Vec<Named>, LineError> {
     let mut list = Vec::new(alloc);
     let mut rest = words;
-    while let [name, sort_key, version, machine_id, behind @ ..] = rest {
+    'entries: while let [name, sort_key, version, machine_id, behind @ ..] = rest {
         list.push(entry_of(alloc, name, sort_key, version, machine_id)?)?;
         rest = behind;
     }

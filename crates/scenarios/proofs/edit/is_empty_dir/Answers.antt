@@ -17,5 +17,5 @@ returns c empty =
     let names = c.in_ok-list.field-0 in
     let none : vec_len names ≡ 0 = eqb-true (vec_len names) 0 (sym c.is_empty.ensures ∙ empty) in
     let listed = c.in_ok-list.ensures in
-    listed_empty c.args.world.now.nodes c.list.new.self.nodes c.args.path.now names.items listed.same.tree (listed.names _ refl)
+    listed_empty c.args.world.now.nodes c.list.new.self.nodes c.args.path.now names.items listed.same.unchanged.tree (listed.names _ refl)
     (nil_from_length names.items (omega arith)) (sym c.if-not-is_dir.ensures)
