@@ -10,3 +10,6 @@ mod world;
 
 pub use sink::MemorySink;
 pub use world::MemoryWorld;
+
+#[cfg(test)]
+mod tests;
