@@ -7,13 +7,14 @@ use crate::entry::{print_entry_name, print_parsed, print_sorted};
 use crate::error::LineError;
 use crate::facts::print_layout;
 use crate::line::Ask;
+use crate::refusal::sample;
 use crate::text::Page;
 use kb_conf::{Assignment, Given, ReadError, is_pattern, matches, read_text, without_returns};
 use kb_store::read_targets;
 use kb_version::version_cmp;
 use kb_world::{
-    Bytes, Host, Path, PathError, RelPath, Text, is_arch, is_boot_word, is_kernel, is_name,
-    is_version, is_word,
+    Bytes, Host, Path, PathError, Refusal, RelPath, Text, is_arch, is_boot_word, is_kernel,
+    is_name, is_version, is_word, message, no_memory_line,
 };
 use std::alloc::{AllocError, Global};
 use std::cmp::Ordering;
@@ -142,6 +143,18 @@ fn print_match(
     }
 }
 
+fn print_refusal(alloc: Global, page: &mut Page, refusal: &Refusal) -> Result<(), AllocError> {
+    page.plain(&format!(in alloc; "{} ", refusal.number())?)?;
+    page.plain(message(alloc, refusal)?.as_str())
+}
+
+fn print_sample(alloc: Global, page: &mut Page, number: u64) -> Result<(), LineError> {
+    match sample(alloc, number)? {
+        Some(refusal) => Ok(print_refusal(alloc, page, &refusal)?),
+        None => Err(LineError::NotANumber),
+    }
+}
+
 /// Adds the answer.
 pub fn print_answer(
     alloc: Global,
@@ -160,6 +173,8 @@ pub fn print_answer(
         Ask::Pattern { pattern, text } => {
             Ok(print_match(alloc, page, pattern.as_str(), text.as_str())?)
         }
+        Ask::Refusal(number) => print_sample(alloc, page, *number),
+        Ask::NoMemory => Ok(page.plain(no_memory_line())?),
         Ask::Entry(bytes) => print_parsed(alloc, page, bytes),
         Ask::EntryName(name) => Ok(print_entry_name(alloc, page, name.as_str())?),
         Ask::Sort(words) => print_sorted(alloc, page, words.as_slice()),

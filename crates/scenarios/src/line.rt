@@ -60,6 +60,7 @@ pub enum Show {
     Claimant(Claimed),
     Conf(Path),
     Facts(TokenChoice),
+    Index(Path),
 }
 
 /// The kernel and the file that are claimed, and the module and the architecture that don't count.
@@ -84,6 +85,8 @@ pub enum Ask {
     EntryName(Text),
     Sort(Texts),
     Layout(Laid),
+    Refusal(u64),
+    NoMemory,
 }
 
 /// The layout that is asked for, the text of `loader/entries.srel`, and whether the token's directory is there.
@@ -250,6 +253,7 @@ fn read_show(alloc: Global, word: &str, rest: Option<&str>) -> Result<Option<Lin
         }
         "claimant" => read_claimant(alloc, rest),
         "conf" => show_line(Show::Conf(last_path(alloc, rest)?)),
+        "index" => show_line(Show::Index(last_path(alloc, rest)?)),
         "facts" => show_line(Show::Facts(choice(alloc, last_text(alloc, rest)?.as_str())?)),
         _ => Ok(None),
     }
@@ -295,13 +299,18 @@ fn read_layout(alloc: Global, rest: Option<&str>) -> Result<Option<Line>, LineEr
     }))
 }
 
-// The lines that ask of boot entries and of the layout.
+// The lines that ask of boot entries, of the layout and of lines that no run prints.
 fn read_boot(alloc: Global, word: &str, rest: Option<&str>) -> Result<Option<Line>, LineError> {
     match word {
         "entry" => ask_line(Ask::Entry(last_bytes(alloc, rest)?)),
         "entry-name" => ask_line(Ask::EntryName(last_text(alloc, rest)?)),
         "sort" => ask_line(Ask::Sort(words(alloc, rest)?)),
         "layout" => read_layout(alloc, rest),
+        "refusal" => ask_line(Ask::Refusal(number(last_field(rest)?)?)),
+        "no-memory" => {
+            no_field(rest)?;
+            ask_line(Ask::NoMemory)
+        }
         _ => Ok(None),
     }
 }

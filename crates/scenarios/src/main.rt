@@ -14,6 +14,7 @@ mod line;
 mod parts;
 mod plain;
 mod play;
+mod refusal;
 mod run;
 mod scene;
 mod show;

@@ -3,7 +3,7 @@
 use crate::error::LineError;
 use crate::text::{Page, Place};
 use kb_memory::MemoryWorld;
-use kb_world::{Area, Node, Path, Request, Text, World, is_name};
+use kb_world::{Area, Node, Path, Request, Roots, Text, World, is_index, is_name};
 use std::alloc::{AllocError, Global};
 
 // Adds a path that is a line's last field.
@@ -120,6 +120,15 @@ fn print_request(alloc: Global, page: &mut Page, request: &Request) -> Result<()
         print_path(alloc, page, " seen ", path)?;
     }
     Ok(())
+}
+
+/// Adds whether the path is that of an index file.
+pub fn print_index(page: &mut Page, roots: &Roots, path: &Path) -> Result<(), AllocError> {
+    page.plain(if is_index(roots, path) {
+        "index\n"
+    } else {
+        "no\n"
+    })
 }
 
 /// Adds the requests behind the first so many, and answers how many there are.

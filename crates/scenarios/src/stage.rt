@@ -10,7 +10,7 @@ use crate::facts::print_facts;
 use crate::line::{Action, Show};
 use crate::run::{Failures, run};
 use crate::scene::{Scene, Step, usual_setting};
-use crate::show::{print_requests, print_tree};
+use crate::show::{print_index, print_requests, print_tree};
 use crate::store::{print_claimant, print_store};
 use crate::text::Page;
 use kb_memory::MemoryWorld;
@@ -72,6 +72,7 @@ fn print(
         }
         Show::Store => print_store(alloc, world, &host.roots, page),
         Show::Claimant(claimed) => print_claimant(alloc, world, &host.roots, &claimed, page),
+        Show::Index(path) => Ok(print_index(page, &host.roots, &path)?),
         Show::Facts(choice) => print_facts(alloc, world, &host.roots, &choice, page),
         Show::Conf(path) => {
             let given = given_for(alloc, host)?;

@@ -2,6 +2,8 @@
 ghost use Rattle.std.specs.Option.{ForSome};
 ghost use Rattle.std.specs.Prelude.{◌≡◌, true};
 ghost use Rattle.kb_world.specs.Roots.{AreApart};
+ghost use Rattle.kb_world.specs.Tree.{node_at, is_dir};
+ghost use Rattle.kb_memory.specs.World.{state_of};
 
 use crate::ask::{joined, print_places};
 use crate::error::LineError;
@@ -132,6 +134,15 @@ fn print_whole(
     Ok(())
 }
 
+// The store as it is read inside a command, once it was read without a refusal.
+fn read_again(alloc: Global, world: &mut MemoryWorld, roots: &Roots) -> Result<Store, Stop>
+    requires apart { AreApart roots.now }
+    requires root { ForSome (state_of world.old).tree (λ tree. is_dir (node_at tree roots.now.dkms) ≡ true) }
+{
+    let _first = Store::read(alloc, world, roots)?;
+    Store::reread(alloc, world, roots)
+}
+
 // The store, or why it can't be read.
 fn read_store(alloc: Global, world: &mut MemoryWorld, roots: &Roots) -> Result<Store, Stop>
     requires { AreApart roots.now }
@@ -144,7 +155,7 @@ fn read_store(alloc: Global, world: &mut MemoryWorld, roots: &Roots) -> Result<S
             }));
         }
     }
-    Store::read(alloc, world, roots)
+    read_again(alloc, world, roots)
 }
 
 /// Adds the added packages, the builds with their places, the installed versions and the kept files, or the refusal.
