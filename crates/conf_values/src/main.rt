@@ -1,5 +1,5 @@
 //! Prints the assignments of a `dkms.conf` that is given on the standard input, each as `NAME[N]=VALUE`
-//! and a NUL, or its first bad line. `bench/conf_like_bash` compares them with a shell's.
+//! and a NUL, or its first bad line. `checks/conf_like_bash` compares them with a shell's.
 #![tactic(auto)]
 
 use kb_conf::{Assignment, Given, ReadError, read_text, without_returns};
