@@ -1,9 +1,11 @@
 -- What calls do to a world and a sink that tell their counts of faults alone.
-use Rattle.std.proofs.Common.{◌≡◌, ℕ, ◌≤◌, Bool, List, Result, Ok, Err, OnOk, IsErrOf, refl, inl, arith}
+use Rattle.std.proofs.Common.{◌≡◌, ℕ, ◌≤◌, Bool, List, Result, Ok, Err, OnOk, OnErr, IsErrOf, refl, [], inl, arith}
 use Rattle.std.proofs.lemmas.Option.{none-some}
 use Rattle.kb_world.specs.Path.{Path}
 use Rattle.kb_world.specs.Tree.{Tree}
-use Rattle.kb_world.specs.State.{HasCause, Lasts, RanNone, Looks, Changes, Puts, Runs, Rose}
+use Rattle.kb_world.specs.State.{HasCause, Lasts, RanNone, Looks, Changes, Puts, Runs, Settles, Rose}
+use Rattle.kb_world.specs.Crash.{Adds, Turns}
+use Rattle.kb_world.specs.declared.child.Area.{Area}
 use Rattle.kb_world.specs.declared.child.Request.{Request}
 use Rattle.kb_world.specs.declared.child.Reply.{Reply}
 use Rattle.kb_world.specs.SinkState.{Writes}
@@ -30,6 +32,13 @@ untold_cause before after result later faults = record {
 untold_lasts : (before after : ℕ) → Lasts (untold before) (untold after)
 untold_lasts before after = record { roots = refl; script = refl; told = refl }
 
+-- such a world tells no moments
+untold_adds : (Has : Tree → Type 0) (before after : ℕ) → Adds Has (untold before).history (untold after).history
+untold_adds Has before after = record { moments = []; added = refl; only = λ image left. absurd left }
+
+untold_turns : (Early Late : Tree → Type 0) (before after : ℕ) → Turns Early Late (untold before).history (untold after).history
+untold_turns Early Late before after = record { early = []; late = []; added = refl; early_only = λ image left. absurd left; late_only = λ image left. absurd left }
+
 untold_ran_none : (before after : ℕ) → RanNone (untold before) (untold after)
 untold_ran_none before after = record { ran = refl; lasts = untold_lasts before after }
 
@@ -50,6 +59,8 @@ untold_changes change before after result later faults = record {
   done = on_ok result _ refl;
   failed = λ _. inl refl;
   no_memory = λ _. refl;
+  soft = refl;
+  moments = untold_turns _ _ before after;
   ran_none = untold_ran_none before after;
   cause = untold_cause before after result later faults;
 }
@@ -60,6 +71,8 @@ untold_puts path bytes exec before after result later faults = record {
   done = on_ok result _ refl;
   failed = λ _. inl refl;
   no_memory = λ _. refl;
+  soft = refl;
+  moments = untold_adds _ before after;
   ran_none = untold_ran_none before after;
   cause = untold_cause before after result later faults;
 }

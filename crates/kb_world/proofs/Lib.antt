@@ -1,4 +1,5 @@
 pub mod AddLaws
+pub mod CrashLaws
 pub mod DamageLaws
 pub mod DoesLaws
 pub mod LayoutLaws
