@@ -4,7 +4,7 @@ ghost use Rattle.std.specs.Option.{ForSome};
 ghost use Rattle.kb_world.specs.Names.{is_name};
 ghost use Rattle.kb_world.specs.Tree.{node_at, is_dir};
 ghost use Rattle.kb_world.specs.State.{Looks};
-ghost use Rattle.kb_store.specs.Walking.{entries, entry_block, met_at, walk_on, walked, is_dir_kind};
+ghost use Rattle.kb_walk.specs.Walking.{entries, entry_block, met_at, walk_on, walked, is_dir_kind};
 
 use kb_world::{Kind, Path, Sequence, Text, World, WorldError};
 use std::alloc::Global;
@@ -16,7 +16,7 @@ pub struct Limits {
     pub depth: u64,
 }
 
-/// The limits of a store's walk.
+/// The limits of a walk that has any: of a store, of a tree that is copied, of a kernel's modules.
 pub const LIMITS: Limits = Limits {
     entries: 65_536,
     depth: 64,

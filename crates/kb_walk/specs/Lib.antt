@@ -1,0 +1,2 @@
+pub mod PrivateLaws
+pub mod Walking
