@@ -1,5 +1,5 @@
 // A walk: every entry below a directory, in the order of paths.
-ghost use Rattle.std.specs.Prelude.{◌≡◌, ◌<◌, ◌≤◌, ◌||◌, ◌&&◌, nat_le, nat_eq, ◌+◌, ◌++◌, List, ℕ, Bool, true, length, map, IfOk, IfSome, OnOk, IsTrue};
+ghost use Rattle.std.specs.Prelude.{◌≡◌, ◌<◌, ◌≤◌, ◌||◌, ◌&&◌, nat_le, nat_eq, ◌+◌, ◌++◌, List, ℕ, Bool, true, false, length, map, IfOk, IfSome, OnOk, IsTrue};
 ghost use Rattle.std.specs.Option.{ForSome};
 ghost use Rattle.kb_world.specs.Names.{is_name};
 ghost use Rattle.kb_world.specs.Tree.{node_at, is_dir};
@@ -46,6 +46,20 @@ pub trait Skips {
 
     /// What is below a skipped entry is skipped.
     ghost deeper: { (it : Self) (path more : List (List ℕ)) → skips it path ≡ true → skips it (path ++ more) ≡ true };
+}
+
+/// A walk over everything skips nothing.
+#[derive(Clone, Copy, Debug)]
+pub struct Everything;
+
+impl Skips for Everything {
+    ghost skips = { λ it path. false };
+
+    fn skips(&self, _: &Path) -> bool {
+        false
+    }
+
+    ghost deeper = { λ it path more skipped. skipped };
 }
 
 // Limits that no walk passes, since memory holds fewer items than a number can count.
