@@ -2,11 +2,13 @@ pub mod Area
 pub mod Boxes
 pub mod Damage
 pub mod Does
+pub mod Index
 pub mod Job
 pub mod Layout
 pub mod Moves
 pub mod Names
 pub mod Outcome
+pub mod Patch
 pub mod Path
 pub mod Public
 pub mod Read
