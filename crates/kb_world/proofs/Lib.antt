@@ -6,6 +6,7 @@ pub mod LayoutLaws
 pub mod LinkLaws
 pub mod ListedLaws
 pub mod NameLaws
+pub mod OrderLaws
 pub mod PartLaws
 pub mod PatchLaws
 pub mod PathLaws

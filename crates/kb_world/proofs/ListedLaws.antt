@@ -1,13 +1,12 @@
 -- Which paths a list has.
-use Rattle.std.proofs.Common.{◌≡◌, Bool, true, false, cond, ◌&&◌, ◌||◌, List, [], ◌∷◌, ◌++◌, map, Option, Some, None, is_some, refl, sym, ap, ◌∙◌}
-use Rattle.std.specs.Prelude.{filter, flat_map, reverse}
-use Rattle.std.specs.List.{list_any}
+use Rattle.std.proofs.Common.{◌≡◌, Bool, true, false, cond, ◌||◌, List, [], ◌∷◌, ◌++◌, map, Some, is_some, refl, sym, ap, ◌∙◌}
+use Rattle.std.specs.Prelude.{flat_map, reverse}
 use Rattle.std.specs.FinMap.{find, from_entries, contains_key-keys, get-from_entries}
 use Rattle.std.proofs.lemmas.List.Folds.{list_any-append}
 use Rattle.std.proofs.lemmas.List.Sorted.{list_any-IsPermutation, IsPermutation-reverse}
 use Rattle.kb_world.specs.Path.{Path, path_cmp}
 use Rattle.kb_world.specs.Tree.{Tree}
-use Rattle.kb_world.specs.TreeLaws.{same_path, same_path-true, same_path-refl, paths_total}
+use Rattle.kb_world.specs.TreeLaws.{same_path, same_path-refl, paths_total}
 use Rattle.kb_world.specs.Patch.{in_order, is_listed}
 use Rattle.kb_world.specs.declared.tree.Node.{Node}
 use Rattle.kb_world.specs.declared.tree.Node.TheVariants as node

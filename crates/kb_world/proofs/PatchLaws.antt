@@ -1,5 +1,5 @@
 -- What stands at a path after a patch.
-use Rattle.std.proofs.Common.{◌≡◌, Bool, true, false, cond, ◌&&◌, ◌||◌, not, List, [], ◌∷◌, Option, Some, None, is_some, refl, sym, ap, ◌∙◌}
+use Rattle.std.proofs.Common.{◌≡◌, ℕ, Bool, true, false, cond, ◌&&◌, ◌||◌, not, List, [], ◌∷◌, ◌++◌, Option, Some, None, is_some, refl, sym, ap, ◌∙◌}
 use Rattle.std.specs.List.{list_any}
 use Rattle.std.specs.Option.{option_or}
 use Rattle.std.specs.FinMap.{keys, remove}
@@ -11,7 +11,8 @@ use Rattle.kb_world.specs.declared.roots.Roots.{Roots}
 use Rattle.kb_world.specs.declared.tree.Node.{Node}
 use Rattle.kb_world.specs.declared.tree.Node.TheVariants as node
 use Rattle.kb_world.specs.Patch.{Patch, dirs_of, emptied_of, dropped, wiped, with_directory, tidied, all_dropped, all_wiped, with_directories, with_nodes, all_tidied, patched, is_listed, put_at, touches, left_at, come_at}
-use Rattle.kb_world.proofs.ListedLaws.{or_first, or_second}
+use Rattle.kb_world.specs.Index.{index_paths, indexing}
+use Rattle.kb_world.proofs.ListedLaws.{or_first, or_second, listed-append}
 
 -- ---- what goes
 
@@ -203,8 +204,8 @@ patched-put roots patch tree q at put leaf =
 pub patched-gone : (roots : Roots) (patch : Patch) (tree : Tree) (q : Path) → left_at patch tree q ≡ None → put_at q patch.puts ≡ None → is_listed q (dirs_of roots patch) ≡ false → node_at (patched roots patch tree) q ≡ None
 patched-gone roots patch tree q gone put dir =
     let is : come_at roots patch tree q ≡ None =
-        ap (λ o. option_or o (option_or (left_at patch tree q) (cond (is_listed q (dirs_of roots patch)) (Some node.Dir) None))) put
-        ∙ ap (λ o. option_or o (cond (is_listed q (dirs_of roots patch)) (Some node.Dir) None)) gone ∙ ap (λ b. cond b (Some node.Dir) None) dir in
+    ap (λ o. option_or o (option_or (left_at patch tree q) (cond (is_listed q (dirs_of roots patch)) (Some node.Dir) None))) put
+    ∙ ap (λ o. option_or o (cond (is_listed q (dirs_of roots patch)) (Some node.Dir) None)) gone ∙ ap (λ b. cond b (Some node.Dir) None) dir in
     patched-firm roots patch tree q (ap is_dir is) ∙ is
 
 -- a directory that is made stands, where no file or link is in its way
@@ -220,3 +221,46 @@ patched-dir roots patch tree q dir free put stays =
     by (Some node.Dir) e = refl
     by (Some (node.File bytes exec)) e = let impossible : true ≡ false = e in absurd (cc)
     by (Some (node.Link text)) e = let impossible : true ≡ false = e in absurd (cc)
+
+-- ---- an index
+
+-- where no file or link stands, none stands once a directory is tidied
+all_tidied-leafless : (paths : List Path) (tree : Tree) (q : Path) → is_leaf (node_at tree q) ≡ false → is_leaf (node_at (all_tidied paths tree) q) ≡ false
+all_tidied-leafless [] tree q none = none
+all_tidied-leafless (p ∷ paths) tree q none = all_tidied-leafless paths (tidied p tree) q (by (is_dir (node_at tree p) && not (list_any (λ other. is_below other p) (keys tree))) (same_path q p) refl)
+  where
+    by : (b s : Bool) → same_path q p ≡ s → is_leaf (node_at (cond b (remove tree p) tree) q) ≡ false
+    by false s e = none
+    by true true e = ap is_leaf (node_at-remove tree p q ∙ ap (λ b. cond b None (node_at tree q)) e)
+    by true false e = ap is_leaf (node_at-remove tree p q ∙ ap (λ b. cond b None (node_at tree q)) e) ∙ none
+
+-- no index file of a kernel is left
+pub indexing-leaves : (roots : Roots) (kernel : List ℕ) (patch : Patch) (tree : Tree) (q : Path) → is_listed q (index_paths roots kernel) ≡ true → put_at q patch.puts ≡ None
+    → is_leaf (node_at (patched roots (indexing roots kernel patch) tree) q) ≡ false
+unfolding patched
+indexing-leaves roots kernel patch tree q index none =
+    all_tidied-leafless (emptied_of roots new) (come roots new tree) q
+    (ap is_leaf (come-at roots new tree q) ∙ ap (λ o. is_leaf (option_or o (option_or (left_at new tree q) (cond (is_listed q (dirs_of roots new)) (Some node.Dir) None)))) none
+    ∙ ap (λ b. is_leaf (option_or (cond (list_any (is_under q) patch.wipes || b && is_leaf (node_at tree q)) None (node_at tree q)) (cond (is_listed q (dirs_of roots new)) (Some node.Dir) None))) dropped_too
+    ∙ by (list_any (is_under q) patch.wipes) (node_at tree q) (is_listed q (dirs_of roots new)))
+  where
+    new : Patch
+    new = indexing roots kernel patch
+
+    dropped_too : is_listed q (patch.drops ++ index_paths roots kernel) ≡ true
+    dropped_too = listed-append q patch.drops (index_paths roots kernel) ∙ ap (λ b. is_listed q patch.drops || b) index ∙ or_true (is_listed q patch.drops)
+      where
+        or_true : (b : Bool) → (b || true) ≡ true
+        or_true true = refl
+        or_true false = refl
+
+    dir_or_none : (b : Bool) → is_leaf (cond b (Some node.Dir) None) ≡ false
+    dir_or_none true = refl
+    dir_or_none false = refl
+
+    by : (w : Bool) (at : Option Node) (dir : Bool) → is_leaf (option_or (cond (w || true && is_leaf at) None at) (cond dir (Some node.Dir) None)) ≡ false
+    by true at dir = dir_or_none dir
+    by false None dir = dir_or_none dir
+    by false (Some node.Dir) dir = refl
+    by false (Some (node.File bytes exec)) dir = dir_or_none dir
+    by false (Some (node.Link text)) dir = dir_or_none dir

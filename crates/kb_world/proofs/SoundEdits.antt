@@ -1,13 +1,11 @@
 -- Edits of a tree that keep what every change keeps that spares the entries that tell.
 use Rattle.std.proofs.Common.{◌≡◌, ◌≢◌, ℕ, Bool, true, false, cond, ◌&&◌, ◌||◌, not, List, [], ◌∷◌, ◌++◌, map, Option, Some, None, codes, refl, sym, ap, ◌∙◌, subst}
 use Rattle.std.proofs.lemmas.List.{append_cancel_left}
-use Rattle.std.specs.Prelude.{bytes_eq, filter, flat_map}
+use Rattle.std.specs.Prelude.{flat_map}
 use Rattle.std.specs.List.{list_any, AllByRecursion}
-use Rattle.std.specs.Option.{option_or}
 use Rattle.std.specs.FinMap.{keys, remove}
 use Rattle.std.specs.Cmp.{first_so, second_so}
-use Rattle.std.specs.Cmp.Lexicographic.{bytes_decides}
-use Rattle.kb_world.specs.Path.{Path, child, is_under}
+use Rattle.kb_world.specs.Path.{Path, is_under}
 use Rattle.kb_world.specs.Tree.{Tree, node_at, with_node, is_dir, is_file, is_leaf}
 use Rattle.kb_world.specs.TreeLaws.{same_path, same_path-true, same_path-refl, same_path-false, node_at-with_node, with_node-apart, node_at-remove, node_at-retain}
 use Rattle.kb_world.specs.Roots.{is_below}

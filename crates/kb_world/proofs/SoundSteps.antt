@@ -1,14 +1,14 @@
 -- No step damages a store: each patch spares the entries that tell, but for those that its step is about.
-use Rattle.std.proofs.Common.{◌≡◌, ℕ, Bool, true, false, cond, ◌&&◌, ◌||◌, not, List, [], ◌∷◌, ◌++◌, length, drop, map, Option, Some, None, is_some, codes, refl, sym, ap, ◌∙◌, subst, append_assoc}
+use Rattle.std.proofs.Common.{◌≡◌, ℕ, Bool, true, false, cond, ◌&&◌, ◌||◌, not, List, [], ◌∷◌, ◌++◌, length, drop, map, Option, Some, None, is_some, codes, refl, sym, ap, ◌∙◌, subst}
 use Rattle.std.proofs.lemmas.List.Sums.{fold-append}
 use Rattle.std.specs.Prelude.{bytes_eq, option_and_then, filter, unwrap_or}
 use Rattle.std.specs.List.{list_any, AllByRecursion}
 use Rattle.std.specs.FinMap.{keys}
-use Rattle.std.specs.Cmp.{first_so, second_so}
+use Rattle.std.specs.Cmp.{second_so}
 use Rattle.std.specs.Cmp.Derive.{both_true}
 use Rattle.std.specs.Cmp.Lexicographic.{bytes_decides}
 use Rattle.kb_world.specs.Names.{is_word, is_version, is_kernel}
-use Rattle.kb_world.specs.Path.{Path, child, is_under, are_apart}
+use Rattle.kb_world.specs.Path.{Path, is_under, are_apart}
 use Rattle.kb_world.specs.Tree.{Tree, node_at, with_node, is_dir, is_file, is_leaf, link_text, file_bytes}
 use Rattle.kb_world.specs.TreeLaws.{with_node-here}
 use Rattle.kb_world.specs.Roots.{AreApart, is_below}
@@ -17,17 +17,17 @@ use Rattle.kb_world.specs.Targets.{last_name, are_targets, targets_of, targets_t
 use Rattle.kb_world.specs.View.{is_index}
 use Rattle.kb_world.specs.Boxes.{is_spot, in_box, log_path, targets_path, module_file, places_at, is_built, has_files, boxed, kernel_link_name, kernel_link_path, kernel_link_text, linked_at, installed, key_of, version_of, spot_of_link, chest_path}
 use Rattle.kb_world.specs.Patch.{Patch, patched, wiped, all_wiped, dropped, all_dropped, with_nodes}
-use Rattle.kb_world.specs.Steps.{add_step, copied, add_tree_patch, add_tree_step, Module, build_patch, build_step, in_kernel, installed_places, is_displaced, displaced_paths, displaced, build_places, copies, modules_at_places, install_patch, install_step, kept_files, put_back, chest_there, uninstall_patch, is_installed, drop_patch, uninstall_step, unbuild_step, unadd_patch, unadd_step, add_patch, below}
+use Rattle.kb_world.specs.Steps.{add_step, source_copy, add_tree_patch, add_tree_step, Module, build_patch, build_step, in_kernel, installed_places, is_displaced, displaced_paths, displaced, build_places, copies, modules_at_places, install_patch, install_step, kept_files, put_back, chest_there, uninstall_patch, is_installed, drop_patch, uninstall_step, unbuild_step, unadd_patch, unadd_step, add_patch, below}
 use Rattle.kb_world.specs.declared.roots.Roots.{Roots}
 use Rattle.kb_world.specs.declared.job.Key.{Key}
 use Rattle.kb_world.specs.declared.job.Spot.{Spot}
 use Rattle.kb_world.specs.declared.tree.Node.{Node}
 use Rattle.kb_world.specs.declared.tree.Node.TheVariants as node
-use Rattle.kb_world.proofs.PathLaws.{under-append, under-self, under-beside, under-above, elsewhere-below, apart-back, by_test}
+use Rattle.kb_world.proofs.PathLaws.{under-append, under-beside, under-above, elsewhere-below, apart-back, by_test}
 use Rattle.kb_world.proofs.PublicLaws.{written_apart}
 use Rattle.kb_world.proofs.DamageLaws.{spot_of, IsSound, IsSoundBox, under-split}
-use Rattle.kb_world.proofs.SoundLaws.{tells, Keeps, kept-file, file-firm, sound_kept, added-kept, built-kept}
-use Rattle.kb_world.proofs.AboveLaws.{fronts, none-map, AreAll, all-append, all-filter, all-passing, all-map, all-all}
+use Rattle.kb_world.proofs.SoundLaws.{tells, kept-file, file-firm, sound_kept, added-kept, built-kept}
+use Rattle.kb_world.proofs.AboveLaws.{fronts, AreAll, all-append, all-filter, all-passing, all-map, all-all}
 use Rattle.kb_world.proofs.SoundEdits.{IsAside, IsBeside, IsClear, IsSpared, ComesBeside, aside-of, beside-of, clear-aside, clear-beside, node_aside, wiped_clear, file_put, drops_aside, puts_aside, patched_spared}
 use Rattle.kb_world.proofs.SoundPuts.{source_put, targets_put, link_put}
 use Rattle.kb_world.proofs.SoundTakes.{HasNoBuilds, source_dropped, link_dropped, IsLinkless, dropped_linkless, still_linkless, IsUnlinked, linkless-unlinked, box_gone}
@@ -99,8 +99,10 @@ unfolding add_tree_step
 add_tree_sound roots apart key from whole store named s =
     patched_spared roots (IsSound roots) (IsSound roots) (spared_sound roots) (spared_sound roots) (add_tree_patch roots key from whole) store
     (record {
-      dirs = (subst (IsClear roots) (append-nil-path (source_path roots key)) (source_clear roots apart key []),
-          all-map (IsClear roots) (λ item. item.0) (filter (λ item. is_dir (Some item.1)) (copied roots key from whole)) (all-filter (λ (item : Path × Node). IsClear roots item.0) (λ item. is_dir (Some item.1)) (copied roots key from whole) clear));
+      dirs = (
+        subst (IsClear roots) (append-nil-path (source_path roots key)) (source_clear roots apart key []),
+        all-map (IsClear roots) (λ item. item.0) (filter (λ item. is_dir (Some item.1)) (source_copy roots key from whole)) (all-filter (λ (item : Path × Node). IsClear roots item.0) (λ item. is_dir (Some item.1)) (source_copy roots key from whole) clear),
+      );
       puts = all-append (λ (put : Path × Node). IsBeside roots put.0) leaves ((link_path roots key, node.Link (source_text roots key)) ∷ [])
           (AreAll (λ (item : Path × Node). IsClear roots item.0) (λ (item : Path × Node). IsBeside roots item.0) (λ item. clear-beside roots item.0) leaves leaves_clear)
           (source_beside roots key (second_so (is_word key.module) (is_version key.version) named), tt);
@@ -109,15 +111,15 @@ add_tree_sound roots apart key from whole store named s =
     (source_put roots (with_nodes leaves tree) key.module key.version
     (puts_aside roots (IsSound roots) (spared_sound roots) leaves tree (AreAll (λ (item : Path × Node). IsClear roots item.0) (λ (item : Path × Node). IsAside roots item.0) (λ item. clear-aside roots item.0) leaves leaves_clear) sound)))
   where
-    clear : AllByRecursion (λ (item : Path × Node). IsClear roots item.0) (copied roots key from whole)
+    clear : AllByRecursion (λ (item : Path × Node). IsClear roots item.0) (source_copy roots key from whole)
     clear = all-map (λ (item : Path × Node). IsClear roots item.0) (λ (item : Path × Node). (source_path roots key ++ item.0, item.1)) (below whole from (filter (λ path. is_below path from) (keys whole)))
         (all-all (λ (item : Path × Node). IsClear roots (source_path roots key ++ item.0)) (λ item. source_clear roots apart key item.0) (below whole from (filter (λ path. is_below path from) (keys whole))))
 
     leaves : List (Path × Node)
-    leaves = filter (λ item. is_leaf (Some item.1)) (copied roots key from whole)
+    leaves = filter (λ item. is_leaf (Some item.1)) (source_copy roots key from whole)
 
     leaves_clear : AllByRecursion (λ (item : Path × Node). IsClear roots item.0) leaves
-    leaves_clear = all-filter (λ (item : Path × Node). IsClear roots item.0) (λ item. is_leaf (Some item.1)) (copied roots key from whole) clear
+    leaves_clear = all-filter (λ (item : Path × Node). IsClear roots item.0) (λ item. is_leaf (Some item.1)) (source_copy roots key from whole) clear
 
     append-nil-path : (path : Path) → path ++ [] ≡ path
     append-nil-path [] = refl
@@ -389,7 +391,7 @@ module _ (roots : Roots) (apart : AreApart roots) (word version kernel arch : Li
 
       patch_by : Bool → Patch
       patch_by b = let installed_too : Patch = cond b (uninstall_patch roots key spot store) (record { drops = []; wipes = []; dirs = []; puts = [] }) in
-        record { drops = installed_too.drops; wipes = installed_too.wipes ++ box; dirs = installed_too.dirs; puts = installed_too.puts }
+          record { drops = installed_too.drops; wipes = installed_too.wipes ++ box; dirs = installed_too.dirs; puts = installed_too.puts }
 
       back : List (Path × Node)
       back = cond there (put_back roots word spot store) []

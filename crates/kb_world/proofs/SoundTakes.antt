@@ -2,9 +2,6 @@
 use Rattle.std.proofs.Common.{◌≡◌, ◌≢◌, ℕ, Bool, true, false, cond, ◌&&◌, not, List, [], ◌∷◌, ◌++◌, Option, Some, None, is_some, codes, refl, sym, ap, ◌∙◌}
 use Rattle.std.proofs.lemmas.List.{append_cancel_left}
 use Rattle.std.specs.Prelude.{option_and_then}
-use Rattle.std.specs.Cmp.{first_so}
-use Rattle.std.specs.Cmp.Lexicographic.{bytes_decides}
-use Rattle.kb_world.specs.Names.{is_kernel, is_arch}
 use Rattle.kb_world.specs.Path.{Path, is_under}
 use Rattle.kb_world.specs.Tree.{Tree, node_at, is_file, is_leaf, link_text}
 use Rattle.kb_world.specs.TreeLaws.{same_path, same_path-true, same_path-refl, same_path-false, node_at-retain}
@@ -21,7 +18,7 @@ use Rattle.kb_world.proofs.DamageLaws.{spot_of, IsSound, under-split}
 use Rattle.kb_world.proofs.PatchLaws.{dropped-at}
 use Rattle.kb_world.proofs.SoundLaws.{may_go, Kept, same, gone, filed, Keeps}
 use Rattle.kb_world.proofs.SoundPuts.{box-so, built-so, link-so}
-use Rattle.kb_world.proofs.SpotLaws.{kernel_no_source, link_spotted, link_named}
+use Rattle.kb_world.proofs.SpotLaws.{link_named}
 
 untrue : false ≡ true → ⊥
 untrue e = cc

@@ -1,5 +1,5 @@
 -- What a transaction takes away and what it brings, and what a tree is afterwards. This project's own.
-use Rattle.std.specs.Prelude.{ℕ, Bool, ◌&&◌, ◌||◌, not, cond, List, [], ◌∷◌, ◌++◌, length, drop, map, filter, flat_map, reverse, fold, Option, Some, None, is_some}
+use Rattle.std.specs.Prelude.{Bool, ◌&&◌, ◌||◌, not, cond, List, [], ◌∷◌, ◌++◌, length, drop, map, filter, flat_map, reverse, fold, Option, Some, None, is_some}
 use Rattle.std.specs.List.{list_any}
 use Rattle.std.specs.Option.{option_or}
 use Rattle.std.specs.FinMap.{keys, remove, retain_keys, from_entries}
@@ -55,9 +55,13 @@ emptied_of roots patch = reverse (in_order (flat_map (above roots) (filter (λ p
 abbrev pub dropped : Path → Tree → Tree
 dropped path tree = cond (is_leaf (node_at tree path)) (without path tree) tree
 
+-- without what passes the test
+abbrev pub cleared : (Path → Bool) → Tree → Tree
+cleared test tree = retain_keys tree (λ path. not (test path))
+
 -- a path goes with all below it
 abbrev pub wiped : Path → Tree → Tree
-wiped path tree = retain_keys tree (λ other. not (is_under other path))
+wiped path tree = cleared (λ other. is_under other path) tree
 
 -- a directory comes where nothing stands
 abbrev pub with_directory : Path → Tree → Tree

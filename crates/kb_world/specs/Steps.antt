@@ -1,5 +1,5 @@
 -- The steps: what one transaction makes of a store. After dkms(8), and this project's own.
-use Rattle.std.specs.Prelude.{ℕ, Bool, true, false, ◌&&◌, ◌||◌, not, cond, List, [], ◌∷◌, ◌++◌, length, drop, map, filter, flat_map, Option, Some, None, is_some, unwrap_or, codes, bytes_eq, option_and_then}
+use Rattle.std.specs.Prelude.{ℕ, Bool, true, false, ◌&&◌, not, cond, List, [], ◌∷◌, ◌++◌, length, drop, map, filter, flat_map, Option, Some, None, is_some, unwrap_or, codes, bytes_eq, option_and_then}
 use Rattle.std.specs.List.{list_any}
 use Rattle.std.specs.Option.{option_or}
 use Rattle.std.specs.FinMap.{keys}
@@ -21,7 +21,7 @@ use Rattle.kb_world.specs.declared.store_path.StorePath.{StorePath}
 use Rattle.kb_world.specs.declared.store_path.StorePath.TheVariants.{KernelLink, InChest}
 use Rattle.kb_world.specs.declared.tree.Node.{Node}
 use Rattle.kb_world.specs.declared.tree.Node.TheVariants as node
-pub use Rattle.kb_world.specs.Patch.{with_directory, directories_to}
+pub use Rattle.kb_world.specs.Patch.{with_directory, cleared, tidied}
 
 -- ---- what blocks a step
 
@@ -51,16 +51,16 @@ abbrev pub add_blocked : Roots → Key → Tree → Option Path
 add_blocked roots key store = option_or (blocking (module_path roots key) store) (blocking (version_path roots key) store)
 
 -- what stands below a directory of the whole tree, each at its place below the version's source
-abbrev pub copied : Roots → Key → Path → Tree → List (Path × Node)
-copied roots key from whole = map (λ item. (source_path roots key ++ item.0, item.1)) (below whole from (filter (λ path. is_below path from) (keys whole)))
+abbrev pub source_copy : Roots → Key → Path → Tree → List (Path × Node)
+source_copy roots key from whole = map (λ item. (source_path roots key ++ item.0, item.1)) (below whole from (filter (λ path. is_below path from) (keys whole)))
 
 -- Add of a directory: the version's source becomes a copy of it and of all below it, then Add.
 abbrev pub add_tree_patch : Roots → Key → Path → Tree → Patch
 add_tree_patch roots key from whole = record {
   drops = [];
   wipes = [];
-  dirs = source_path roots key ∷ map (λ item. item.0) (filter (λ item. is_dir (Some item.1)) (copied roots key from whole));
-  puts = filter (λ item. is_leaf (Some item.1)) (copied roots key from whole) ++ (link_path roots key, node.Link (source_text roots key)) ∷ [];
+  dirs = source_path roots key ∷ map (λ item. item.0) (filter (λ item. is_dir (Some item.1)) (source_copy roots key from whole));
+  puts = filter (λ item. is_leaf (Some item.1)) (source_copy roots key from whole) ++ (link_path roots key, node.Link (source_text roots key)) ∷ [];
 }
 
 unfoldable pub add_tree_step : Roots → Key → Path → Tree → Tree → Tree

@@ -28,7 +28,7 @@ pub use child::{Area, Effect, EffectRow, Reply, Request};
 pub use job::{Filter, HookKind, Host, Job, Key, Report, Spot, Spots, TokenChoice};
 pub use laws::add_adds_one_package;
 pub use names::{is_arch, is_boot_word, is_kernel, is_name, is_version, is_word};
-pub use patch_laws::a_patch_names_its_paths;
+pub use patch_laws::{a_patch_names_its_paths, an_old_index_goes};
 pub use path::{Path, PathError, text_tells_path};
 pub use refusal::{Refusal, bad_boot_line, bad_root_line, fault_line, message, no_memory_line};
 pub use rel_path::RelPath;
