@@ -1,3 +1,4 @@
+pub mod AboveLaws
 pub mod AddLaws
 pub mod CrashLaws
 pub mod DamageLaws
@@ -5,14 +6,16 @@ pub mod DoesLaws
 pub mod LayoutLaws
 pub mod LookLaws
 pub mod LinkLaws
+pub mod ListedLaws
 pub mod NameLaws
+pub mod OrderLaws
 pub mod PartLaws
+pub mod PatchLaws
 pub mod PathLaws
 pub mod PathText
 pub mod PublicLaws
 pub mod PublicPlaces
 pub mod RootsLaws
-pub mod SoundDrops
 pub mod SoundEdits
 pub mod SoundLaws
 pub mod SoundPuts
