@@ -4,9 +4,10 @@ pub mod CrashLaws
 pub mod DamageLaws
 pub mod DoesLaws
 pub mod LayoutLaws
-pub mod LookLaws
+pub mod LeftLaws
 pub mod LinkLaws
 pub mod ListedLaws
+pub mod LookLaws
 pub mod NameLaws
 pub mod OrderLaws
 pub mod PartLaws
