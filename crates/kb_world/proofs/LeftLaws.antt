@@ -67,7 +67,7 @@ soft_then : (soft : List Area) (path : Path) (was mid left : Option Node) → is
 soft_then soft path was mid left a b =
     soft_is soft path was left
     ∙ joined (list_any (anything_at path) soft) (list_any (named_at path) soft) (not (is_dir was)) (not (is_dir mid)) (not (is_dir left))
-        (sym (soft_is soft path was mid) ∙ a) (sym (soft_is soft path mid left) ∙ b)
+    (sym (soft_is soft path was mid) ∙ a) (sym (soft_is soft path mid left) ∙ b)
 
 soft_or : (a b : Bool) → b ≡ true → a || b ≡ true
 soft_or true b h = refl
