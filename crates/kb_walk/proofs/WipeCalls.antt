@@ -232,7 +232,7 @@ takes_none change path old new error formed l = takes_nothing change path old ne
 pub takes_part : {T : Type 0} (change other : Tree → Tree) (path : Path) (old new : State) (error : WorldError) → TakesAway change path {T = T} old new (Err error) → TakesAway other path {T = T} old new (Err error)
 takes_part change other path old new error t = record { done = tt; partly = t.partly; soft = t.soft; moments = t.moments; ran_none = t.ran_none; cause = t.cause }
 
-done_not_failed : {T : Type 0} (value : T) → IsErrOf {T = T} {E = WorldError} (Ok value) Failed → ⊥
+pub done_not_failed : {T : Type 0} (value : T) → IsErrOf {T = T} {E = WorldError} (Ok value) Failed → ⊥
 done_not_failed value failed = let impossible : Ok value ≡ Err Failed = failed in cc
 
 -- nothing stands there

@@ -1,0 +1,5 @@
+//! The journal's transactions.
+#![tactic(auto)]
+
+pub mod doing;
+pub mod standing;
