@@ -20,7 +20,7 @@ use Rattle.kb_world.proofs.DoesLaws.{cause_then, ran_none_then}
 use Rattle.kb_walk.specs.Walking.{paths_below}
 use Rattle.kb_walk.proofs.WalkLaws.{below_entries}
 use Rattle.kb_walk.proofs.WipeCalls.{HasFormedTree, cause_handed, done_not_failed}
-use Rattle.kb_intent.specs.Doing.{StepsTo, IsEitherOf, IsEitherNow, LeftOfEither, made_at, dropped_at, put_at}
+use Rattle.kb_intent.specs.Doing.{StepsTo, IsEitherOf, IsEitherNow, LeftOfEither, made_dir_at, dropped_leaf_at, put_staged_at}
 
 -- a world's call that makes the change
 module _ {T : Type 0} (change by_call : Tree → Tree) (old new : State) (result : Result T WorldError) (is : ForSome old.tree (λ tree. by_call tree ≡ change tree)) (c : Changes by_call old new result) where
@@ -105,23 +105,23 @@ is_none (Some node) e = let impossible : true ≡ false = e in absurd (cc)
 by_three : (a b c : Bool) (x y : Tree) → a ≡ true → b ≡ true → c ≡ true → cond (a && b && c) x y ≡ x
 by_three a b c x y e f g = rw (e, f, g)
 
-pub made : (path : Path) (tree : Tree) → node_at tree path ≡ None → true ≡ is_dir (node_at tree (parent path)) → with_node path nodes.Dir tree ≡ made_at path tree
+pub made : (path : Path) (tree : Tree) → node_at tree path ≡ None → true ≡ is_dir (node_at tree (parent path)) → with_node path nodes.Dir tree ≡ made_dir_at path tree
 made path tree free directory = sym (rw (free, sym directory))
 
-pub unmade_taken : (path : Path) (tree : Tree) → false ≡ not (is_some (node_at tree path)) → made_at path tree ≡ tree
+pub unmade_taken : (path : Path) (tree : Tree) → false ≡ not (is_some (node_at tree path)) → made_dir_at path tree ≡ tree
 unmade_taken path tree taken = rw (sym taken)
 
-pub unmade_homeless : (path : Path) (tree : Tree) → false ≡ is_dir (node_at tree (parent path)) → made_at path tree ≡ tree
+pub unmade_homeless : (path : Path) (tree : Tree) → false ≡ is_dir (node_at tree (parent path)) → made_dir_at path tree ≡ tree
 unmade_homeless path tree homeless = by (not (is_some (node_at tree path))) (is_dir (node_at tree (parent path))) (sym homeless)
   where
     by : (a b : Bool) → b ≡ false → cond (a && b) (with_node path nodes.Dir tree) tree ≡ tree
     by true b e = rw e
     by false b e = refl
 
-pub dropped : (path : Path) (tree : Tree) → true ≡ is_leaf (node_at tree path) → without path tree ≡ dropped_at path tree
+pub dropped : (path : Path) (tree : Tree) → true ≡ is_leaf (node_at tree path) → without path tree ≡ dropped_leaf_at path tree
 dropped path tree leaf = sym (rw (sym leaf))
 
-pub undropped : (path : Path) (tree : Tree) → false ≡ is_leaf (node_at tree path) → dropped_at path tree ≡ tree
+pub undropped : (path : Path) (tree : Tree) → false ≡ is_leaf (node_at tree path) → dropped_leaf_at path tree ≡ tree
 undropped path tree none = rw (sym none)
 
 -- ---- directories without entries
@@ -169,7 +169,7 @@ untidied_other tree path other = rw (sym other)
 
 -- ---- what is staged
 
-pub put : (staged target : Path) (tree : Tree) → is_leaf (node_at tree staged) ≡ true → is_dir (node_at tree target) ≡ false → true ≡ is_dir (node_at tree (parent target)) → moved staged target tree ≡ put_at staged target tree
+pub put : (staged target : Path) (tree : Tree) → is_leaf (node_at tree staged) ≡ true → is_dir (node_at tree target) ≡ false → true ≡ is_dir (node_at tree (parent target)) → moved staged target tree ≡ put_staged_at staged target tree
 put staged target tree leaf free directory = sym (by_three (is_leaf (node_at tree staged)) (not (is_dir (node_at tree target))) (is_dir (node_at tree (parent target))) (moved staged target tree) tree leaf (ap not free) (sym directory))
 
 unput : (a b c : Bool) (x y : Tree) → (a ≡ false) ⊎ ((b ≡ false) ⊎ (c ≡ false)) → cond (a && b && c) x y ≡ y
@@ -180,13 +180,13 @@ unput true true c x y (inr (inr e)) = rw e
 unput true false c x y (inr (inr e)) = refl
 unput false b c x y (inr (inr e)) = refl
 
-pub unput_absent : (staged target : Path) (tree : Tree) → false ≡ is_leaf (node_at tree staged) → put_at staged target tree ≡ tree
+pub unput_absent : (staged target : Path) (tree : Tree) → false ≡ is_leaf (node_at tree staged) → put_staged_at staged target tree ≡ tree
 unput_absent staged target tree e = unput (is_leaf (node_at tree staged)) (not (is_dir (node_at tree target))) (is_dir (node_at tree (parent target))) (moved staged target tree) tree (inl (sym e))
 
-pub unput_taken : (staged target : Path) (tree : Tree) → true ≡ is_dir (node_at tree target) → put_at staged target tree ≡ tree
+pub unput_taken : (staged target : Path) (tree : Tree) → true ≡ is_dir (node_at tree target) → put_staged_at staged target tree ≡ tree
 unput_taken staged target tree e = unput (is_leaf (node_at tree staged)) (not (is_dir (node_at tree target))) (is_dir (node_at tree (parent target))) (moved staged target tree) tree (inr (inl (ap not (sym e))))
 
-pub unput_homeless : (staged target : Path) (tree : Tree) → false ≡ is_dir (node_at tree (parent target)) → put_at staged target tree ≡ tree
+pub unput_homeless : (staged target : Path) (tree : Tree) → false ≡ is_dir (node_at tree (parent target)) → put_staged_at staged target tree ≡ tree
 unput_homeless staged target tree e = unput (is_leaf (node_at tree staged)) (not (is_dir (node_at tree target))) (is_dir (node_at tree (parent target))) (moved staged target tree) tree (inr (inr (sym e)))
 
 -- ---- a look with this answer, over the tree that is told

@@ -41,16 +41,16 @@ pub record StepsTo (change : Tree → Tree) {T : Type 0} (old new : State) (resu
   pub cause : HasCause Failed old new result
 
 -- a directory is made where nothing stands, in a directory
-abbrev pub made_at : Path → Tree → Tree
-made_at path tree = cond (not (is_some (node_at tree path)) && is_dir (node_at tree (parent path))) (with_node path node.Dir tree) tree
+abbrev pub made_dir_at : Path → Tree → Tree
+made_dir_at path tree = cond (not (is_some (node_at tree path)) && is_dir (node_at tree (parent path))) (with_node path node.Dir tree) tree
 
 -- a file or a link goes
-abbrev pub dropped_at : Path → Tree → Tree
-dropped_at path tree = cond (is_leaf (node_at tree path)) (without path tree) tree
+abbrev pub dropped_leaf_at : Path → Tree → Tree
+dropped_leaf_at path tree = cond (is_leaf (node_at tree path)) (without path tree) tree
 
 -- a staged file or link comes to its target, where no directory stands, in a directory
-abbrev pub put_at : Path → Path → Tree → Tree
-put_at staged target tree = cond (is_leaf (node_at tree staged) && not (is_dir (node_at tree target)) && is_dir (node_at tree (parent target))) (moved staged target tree) tree
+abbrev pub put_staged_at : Path → Path → Tree → Tree
+put_staged_at staged target tree = cond (is_leaf (node_at tree staged) && not (is_dir (node_at tree target)) && is_dir (node_at tree (parent target))) (moved staged target tree) tree
 
 -- ---- any change
 

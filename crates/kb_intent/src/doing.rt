@@ -5,7 +5,7 @@ ghost use Rattle.kb_world.specs.Path as paths;
 ghost use Rattle.kb_world.specs.Roots.{share_root};
 ghost use Rattle.kb_world.specs.Steps.{tidied};
 ghost use Rattle.kb_world.specs.Tree.{node_at, is_dir, is_leaf};
-ghost use Rattle.kb_intent.specs.Doing.{StepsTo, made_at, dropped_at, put_at};
+ghost use Rattle.kb_intent.specs.Doing.{StepsTo, made_dir_at, dropped_leaf_at, put_staged_at};
 
 use crate::standing::{is_directory, is_free, is_leaf};
 use kb_world::{Path, World, WorldError};
@@ -20,7 +20,7 @@ fn make_inside<W: World>(
 ) -> Result<(), WorldError>
     requires parent { parent.now ≡ paths.parent path.now }
     requires free { ForSome (W.state world.old).tree (λ tree. node_at tree path.now ≡ None) }
-    ensures { StepsTo (made_at path.now) (W.state world.old) (W.state world.new) result }
+    ensures { StepsTo (made_dir_at path.now) (W.state world.old) (W.state world.new) result }
 {
     match is_directory(alloc, world, parent) {
         Ok(true) => world.make_dir(alloc, path),
@@ -37,7 +37,7 @@ pub fn make_directory<W: World>(
     path: &Path,
 ) -> Result<(), WorldError>
     requires parent { parent.now ≡ paths.parent path.now }
-    ensures { StepsTo (made_at path.now) (W.state world.old) (W.state world.new) result }
+    ensures { StepsTo (made_dir_at path.now) (W.state world.old) (W.state world.new) result }
 {
     match is_free(alloc, world, path) {
         Ok(true) => make_inside(alloc, world, parent, path),
@@ -48,7 +48,7 @@ pub fn make_directory<W: World>(
 
 /// Takes a file or a link away.
 pub fn drop_leaf<W: World>(alloc: Global, world: &mut W, path: &Path) -> Result<(), WorldError>
-    ensures { StepsTo (dropped_at path.now) (W.state world.old) (W.state world.new) result }
+    ensures { StepsTo (dropped_leaf_at path.now) (W.state world.old) (W.state world.new) result }
 {
     match is_leaf(alloc, world, path) {
         Ok(true) => world.unlink(alloc, path),
@@ -97,7 +97,7 @@ fn put_inside<W: World>(
     requires shared { ForSome (W.state world.old).tree (λ tree. share_root (W.state world.old).roots staged.now target.now ≡ true) }
     requires staged { ForSome (W.state world.old).tree (λ tree. is_leaf (node_at tree staged.now) ≡ true) }
     requires no_directory { ForSome (W.state world.old).tree (λ tree. is_dir (node_at tree target.now) ≡ false) }
-    ensures { StepsTo (put_at staged.now target.now) (W.state world.old) (W.state world.new) result }
+    ensures { StepsTo (put_staged_at staged.now target.now) (W.state world.old) (W.state world.new) result }
 {
     match is_directory(alloc, world, parent) {
         Ok(true) => world.rename(alloc, staged, target),
@@ -117,7 +117,7 @@ fn put_leaf<W: World>(
     requires parent { parent.now ≡ paths.parent target.now }
     requires shared { ForSome (W.state world.old).tree (λ tree. share_root (W.state world.old).roots staged.now target.now ≡ true) }
     requires staged { ForSome (W.state world.old).tree (λ tree. is_leaf (node_at tree staged.now) ≡ true) }
-    ensures { StepsTo (put_at staged.now target.now) (W.state world.old) (W.state world.new) result }
+    ensures { StepsTo (put_staged_at staged.now target.now) (W.state world.old) (W.state world.new) result }
 {
     match is_directory(alloc, world, target) {
         Ok(true) => Ok(()),
@@ -136,7 +136,7 @@ pub fn put_staged<W: World>(
 ) -> Result<(), WorldError>
     requires parent { parent.now ≡ paths.parent target.now }
     requires shared { ForSome (W.state world.old).tree (λ tree. share_root (W.state world.old).roots staged.now target.now ≡ true) }
-    ensures { StepsTo (put_at staged.now target.now) (W.state world.old) (W.state world.new) result }
+    ensures { StepsTo (put_staged_at staged.now target.now) (W.state world.old) (W.state world.new) result }
 {
     match is_leaf(alloc, world, staged) {
         Ok(true) => put_leaf(alloc, world, staged, parent, target),
