@@ -18,7 +18,7 @@ use Rattle.kb_world.specs.declared.refusal.Refusal.TheVariants as refusal
 use Rattle.kb_world.specs.declared.store_path.StorePath.TheVariants.{SourceLink}
 use Rattle.kb_world.specs.declared.tree.Node.{Node}
 use Rattle.kb_world.specs.declared.tree.Node.TheVariants as node
-use Rattle.kb_world.proofs.AddLaws.{elsewhere as stays}
+use Rattle.kb_world.proofs.AddLaws.{add_step-is, elsewhere as stays}
 use Rattle.kb_world.proofs.DamageLaws.{sound_from}
 use Rattle.kb_world.proofs.NameLaws.{known, begins-append}
 use Rattle.kb_world.proofs.PathLaws.{elsewhere, under-append, apart-back}
@@ -126,13 +126,13 @@ foreign-with_directory roots path tree open_to = by_case (is_some (node_at tree 
 
 pub step_shown : (roots : Roots) → AreApart roots → (key : Key) → is_key key ≡ true → (tree : Tree)
     → public_tree roots (place_step (package_places roots key) tree) ≡ add_step roots key (public_tree roots tree)
-unfolding add_step
 step_shown roots apart key good tree =
     let open_to = are_public roots apart key good in
     let places = package_places roots key in
     public_tree-with_node roots _ places.link _ open_to.link
     ∙ ap (with_node places.link (node.Link places.text)) (public-with_directory roots places.version _ open_to.version
     ∙ ap (with_directory places.version) (public-with_directory roots places.module tree open_to.package_directory))
+    ∙ sym (add_step-is roots key (public_tree roots tree))
 
 pub step_keeps_foreign : (roots : Roots) → AreApart roots → (key : Key) → is_key key ≡ true → (tree : Tree)
     → foreign_tree roots (place_step (package_places roots key) tree) ≡ foreign_tree roots tree
@@ -146,9 +146,9 @@ step_keeps_foreign roots apart key good tree =
 
 -- the directory of the source stands as it did
 pub source_stays : (roots : Roots) → AreApart roots → (key : Key) → (tree : Tree) → node_at (place_step (package_places roots key) tree) (source_path roots key) ≡ node_at tree (source_path roots key)
-unfolding add_step
 source_stays roots apart key tree =
-    stays roots key tree (source_path roots key) (outside _ (under-append roots.dkms (key.module ∷ [])))
+    ap (λ t. node_at t (source_path roots key)) (sym (add_step-is roots key tree))
+    ∙ stays roots key tree (source_path roots key) (outside _ (under-append roots.dkms (key.module ∷ [])))
     (outside _ (under-append roots.dkms (key.module ∷ key.version ∷ [])))
     (outside _ (under-append roots.dkms (key.module ∷ key.version ∷ codes "source" ∷ [])))
   where

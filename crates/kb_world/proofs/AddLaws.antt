@@ -1,5 +1,5 @@
 -- What the step Add does to a store.
-use Rattle.std.proofs.Common.{◌≡◌, ◌≢◌, ℕ, ◌+◌, Bool, true, false, ◌||◌, List, [], ◌∷◌, ◌++◌, length, Option, Some, None, refl, sym, ap, ◌∙◌, subst, arith, length-append}
+use Rattle.std.proofs.Common.{◌≡◌, ◌≢◌, ℕ, ◌+◌, Bool, true, false, ◌||◌, List, [], ◌∷◌, ◌++◌, length, Option, Some, None, refl, sym, ap, ◌∙◌, subst, arith, length-append, append_assoc}
 use Rattle.std.specs.Prelude.{bytes_eq, codes}
 use Rattle.std.proofs.lemmas.List.{append_cancel_left}
 use Rattle.std.specs.Option.{option_or}
@@ -8,14 +8,18 @@ use Rattle.std.specs.Cmp.Derive.{both_true}
 use Rattle.std.specs.Cmp.Lexicographic.{bytes_decides}
 use Rattle.kb_world.specs.Path.{Path}
 use Rattle.kb_world.specs.StorePath.{key_of, names_of, path_of}
-use Rattle.kb_world.specs.Tree.{Tree, node_at, is_dir, link_text}
+use Rattle.kb_world.specs.Tree.{Tree, node_at, with_node, is_dir, link_text}
 use Rattle.kb_world.specs.TreeLaws.{same_path, same_path-true, same_path-refl, with_node-here, with_node-apart}
 use Rattle.kb_world.specs.Store.{is_added, same_key, says, module_path, version_path, link_path, source_text}
-use Rattle.kb_world.specs.Steps.{with_directory, blocking, add_step, add_blocked}
+use Rattle.kb_world.specs.Patch.{above, dirs_of, emptied_of, in_order, patched, with_directory, with_directories, with_nodes, all_tidied, is_listed}
+use Rattle.kb_world.specs.Steps.{blocking, add_patch, add_step, add_blocked}
 use Rattle.kb_world.specs.declared.roots.Roots.{Roots}
 use Rattle.kb_world.specs.declared.job.Key.{Key}
 use Rattle.kb_world.specs.declared.tree.Node.TheVariants as node
 use Rattle.kb_world.specs.declared.store_path.StorePath.TheVariants.{SourceLink}
+use Rattle.kb_world.proofs.AboveLaws.{above-dkms}
+use Rattle.kb_world.proofs.ListedLaws.{listed-reverse, listed-in_order, no_path_listed}
+use Rattle.kb_world.proofs.PatchLaws.{with_directories-same}
 use Rattle.kb_world.proofs.StepLaws.{directory-here, directory-apart, blocking-same}
 use Rattle.kb_world.proofs.PathLaws.{by_test}
 
@@ -23,29 +27,49 @@ use Rattle.kb_world.proofs.PathLaws.{by_test}
 one_link : (roots : Roots) (a b : Key) → link_path roots a ≡ link_path roots b → (a.module ≡ b.module) × (a.version ≡ b.version)
 one_link roots a b e = let same = append_cancel_left roots.dkms (names_of (SourceLink a)) (names_of (SourceLink b)) e in (cc, cc)
 
+-- Add makes the two directories and then the link
+pub add_step-is : (roots : Roots) (key : Key) (store : Tree)
+    → add_step roots key store ≡ with_node (link_path roots key) (node.Link (source_text roots key)) (with_directory (version_path roots key) (with_directory (module_path roots key) store))
+unfolding add_step patched
+add_step-is roots key store =
+    ap (λ paths. all_tidied paths (with_nodes (add_patch roots key).puts (with_directories (dirs_of roots (add_patch roots key)) store))) none_emptied
+    ∙ ap (with_node (link_path roots key) (node.Link (source_text roots key))) (with_directories-same (dirs_of roots (add_patch roots key)) (module_path roots key ∷ version_path roots key ∷ []) store made)
+  where
+    none_emptied : emptied_of roots (add_patch roots key) ≡ []
+    none_emptied = no_path_listed (emptied_of roots (add_patch roots key)) (λ q. listed-reverse q (in_order []) ∙ listed-in_order q [])
+
+    above_link : above roots (link_path roots key) ≡ module_path roots key ∷ version_path roots key ∷ []
+    above_link =
+        above-dkms roots (key.module ∷ key.version ∷ codes "source" ∷ [])
+        ∙ ap (λ p. module_path roots key ∷ p ∷ []) (append_assoc roots.dkms (key.module ∷ []) (key.version ∷ []))
+
+    made : (q : Path) → is_listed q (dirs_of roots (add_patch roots key)) ≡ is_listed q (module_path roots key ∷ version_path roots key ∷ [])
+    made q = listed-in_order q ((above roots (link_path roots key) ++ []) ++ []) ∙ ap (λ paths. is_listed q ((paths ++ []) ++ [])) above_link
+
 pub elsewhere : (roots : Roots) (key : Key) (store : Tree) (path : Path) → path ≢ module_path roots key → path ≢ version_path roots key → path ≢ link_path roots key
     → node_at (add_step roots key store) path ≡ node_at store path
-unfolding add_step
 elsewhere roots key store path no_module no_version no_link =
-    with_node-apart (with_directory (version_path roots key) (with_directory (module_path roots key) store)) (link_path roots key) (node.Link (source_text roots key)) path no_link
+    ap (λ t. node_at t path) (add_step-is roots key store)
+    ∙ with_node-apart (with_directory (version_path roots key) (with_directory (module_path roots key) store)) (link_path roots key) (node.Link (source_text roots key)) path no_link
     ∙ directory-apart (version_path roots key) (with_directory (module_path roots key) store) path no_version ∙ directory-apart (module_path roots key) store path no_module
 
 here : (roots : Roots) (key : Key) (store : Tree) → node_at (add_step roots key store) (link_path roots key) ≡ Some (node.Link (source_text roots key))
-unfolding add_step
-here roots key store = with_node-here (with_directory (version_path roots key) (with_directory (module_path roots key) store)) (link_path roots key) (node.Link (source_text roots key))
+here roots key store =
+    ap (λ t. node_at t (link_path roots key)) (add_step-is roots key store)
+    ∙ with_node-here (with_directory (version_path roots key) (with_directory (module_path roots key) store)) (link_path roots key) (node.Link (source_text roots key))
 
 -- a link is no directory above another package's link
 longer : (roots : Roots) (a b : Key) → length (link_path roots a) ≡ length roots.dkms + 3
 longer roots a b = omega (arith, length-append roots.dkms (names_of (SourceLink a)))
 
 pub directories : (roots : Roots) (key : Key) (store : Tree) → add_blocked roots key store ≡ None → is_dir (node_at (add_step roots key store) (version_path roots key)) ≡ true
-unfolding add_step
 directories roots key store free =
     let below : version_path roots key ≢ link_path roots key = λ same. let names = append_cancel_left roots.dkms (key.module ∷ key.version ∷ []) (names_of (SourceLink key)) same in cc in
     let above : version_path roots key ≢ module_path roots key = λ same. let names = append_cancel_left roots.dkms (key.module ∷ key.version ∷ []) (key.module ∷ []) same in cc in
     let once = with_directory (module_path roots key) store in
     let open_to = blocking-same (version_path roots key) once store (directory-apart (module_path roots key) store (version_path roots key) above) ∙ second_free (blocking (module_path roots key) store) _ free in
-    ap is_dir (with_node-apart (with_directory (version_path roots key) once) (link_path roots key) (node.Link (source_text roots key)) (version_path roots key) below)
+    ap (λ t. is_dir (node_at t (version_path roots key))) (add_step-is roots key store)
+    ∙ ap is_dir (with_node-apart (with_directory (version_path roots key) once) (link_path roots key) (node.Link (source_text roots key)) (version_path roots key) below)
     ∙ directory-here (version_path roots key) once open_to
   where
     second_free : (a b : Option Path) → option_or a b ≡ None → b ≡ None

@@ -1,11 +1,10 @@
 -- A store has no damaged path exactly where each of its links and builds is sound.
-use Rattle.std.proofs.Common.{◌≡◌, ℕ, Bool, true, false, cond, ◌&&◌, ◌||◌, not, List, [], ◌∷◌, ◌++◌, length, drop, map, Option, Some, None, is_some, codes, refl, sym, ap, ◌∙◌, append_assoc}
-use Rattle.std.specs.Prelude.{bytes_eq, filter, flat_map}
+use Rattle.std.proofs.Common.{◌≡◌, ℕ, Bool, true, false, cond, ◌&&◌, ◌||◌, not, List, [], ◌∷◌, ◌++◌, map, Option, Some, None, is_some, refl, sym, ap, ◌∙◌}
+use Rattle.std.specs.Prelude.{filter, flat_map}
 use Rattle.std.specs.List.{list_all, list_any}
 use Rattle.std.specs.FinMap.{keys, contains_key-keys}
 use Rattle.std.specs.Cmp.{first_so, second_so}
 use Rattle.std.specs.Cmp.Derive.{both_true}
-use Rattle.std.specs.Cmp.Lexicographic.{bytes_decides}
 use Rattle.kb_world.specs.Names.{is_word, is_kernel, is_arch}
 use Rattle.kb_world.specs.Path.{Path}
 use Rattle.kb_world.specs.StorePath.{is_ruled, store_path, path_of}

@@ -1,7 +1,7 @@
 -- The union of trees, and that the parts of a store make it up.
 use Rattle.std.proofs.Common.{◌≡◌, Bool, true, false, cond, ◌&&◌, ◌||◌, not, List, [], ◌∷◌, ◌++◌, Option, Some, None, refl, sym, ap, ◌∙◌}
 use Rattle.std.specs.Option.{option_or}
-use Rattle.std.specs.FinMap.{entries, from_entries, get-entries, get-from_entries, retain_keys}
+use Rattle.std.specs.FinMap.{entries, get-entries, get-from_entries}
 use Rattle.std.specs.FinMap.Entries.{find}
 use Rattle.std.specs.Ordering.{eq_by_cmp}
 use Rattle.std.specs.List.{list_any}

@@ -1,9 +1,9 @@
 -- What is for something below the dkms root is public, but for scratch trees.
-use Rattle.std.proofs.Common.{◌≡◌, Bool, true, false, ◌&&◌, not, ◌∷◌, ◌++◌, Some, codes, ap, ◌∙◌}
+use Rattle.std.proofs.Common.{◌≡◌, true, false, ◌&&◌, not, Some, ap, ◌∙◌}
 use Rattle.std.specs.Cmp.{first_so}
 use Rattle.kb_world.specs.Names.{is_word, is_version}
-use Rattle.kb_world.specs.Roots.{AreApart, is_below}
-use Rattle.kb_world.specs.StorePath.{is_key, is_spot, is_targets, kernel_link_name, names_of, is_ruled, path_of, is_in_scratch}
+use Rattle.kb_world.specs.Roots.{AreApart}
+use Rattle.kb_world.specs.StorePath.{is_key, is_spot, is_targets, names_of, is_ruled, path_of, is_in_scratch}
 use Rattle.kb_world.specs.declared.roots.Roots.{Roots}
 use Rattle.kb_world.specs.declared.store_path.StorePath.{StorePath}
 use Rattle.kb_world.specs.declared.store_path.StorePath.TheVariants.{SourceLink, InScratch, Targets, InBox, KernelLink, InChest}

@@ -2,21 +2,21 @@
 use Rattle.std.proofs.Common.{◌≡◌, ℕ, true, false, List, map, None, is_some, sym, ap, ◌∙◌}
 use Rattle.std.specs.Cmp.{first_so, second_so}
 use Rattle.kb_world.specs.Names.{is_word, is_version, is_kernel, is_arch}
+use Rattle.kb_world.specs.Path.{Path}
 use Rattle.kb_world.specs.Tree.{Tree, node_at}
 use Rattle.kb_world.specs.Roots.{AreApart}
 use Rattle.kb_world.specs.Store.{is_key, is_added}
 use Rattle.kb_world.specs.Targets.{are_targets}
 use Rattle.kb_world.specs.Boxes.{is_spot, targets_path, is_built, kernel_link_name, spot_of_link}
 use Rattle.kb_world.specs.Damage.{hurt}
-use Rattle.kb_world.specs.Steps.{Module, add_step, build_step, install_step, uninstall_step, unbuild_step, unadd_step}
+use Rattle.kb_world.specs.Steps.{Module, add_step, add_tree_step, build_step, install_step, uninstall_step, unbuild_step, unadd_step}
 use Rattle.kb_world.specs.declared.roots.Roots.{Roots}
 use Rattle.kb_world.specs.declared.job.Key.{Key}
 use Rattle.kb_world.specs.declared.job.Spot.{Spot}
 use Rattle.kb_world.proofs.PathLaws.{by_test}
 use Rattle.kb_world.proofs.DamageLaws.{spot_of, sound_from, sound_to}
 use Rattle.kb_world.proofs.SoundTakes.{HasNoBuilds}
-use Rattle.kb_world.proofs.SoundSteps.{untrue, add_sound, build_sound}
-use Rattle.kb_world.proofs.SoundDrops.{install_sound, uninstall_sound, unbuild_sound, unadd_sound}
+use Rattle.kb_world.proofs.SoundSteps.{untrue, add_sound, add_tree_sound, build_sound, install_sound, uninstall_sound, unbuild_sound, unadd_sound}
 use Rattle.kb_world.proofs.SpotLaws.{link_read}
 
 is_version_of : (key : Key) → is_key key ≡ true → is_version key.version ≡ true
@@ -27,6 +27,9 @@ linkable spot spotted = ap is_some (link_read spot.kernel spot.arch (first_so (i
 
 pub add : (roots : Roots) (key : Key) (store : Tree) → is_key key ≡ true → hurt roots store ≡ None → hurt roots (add_step roots key store) ≡ None
 add roots key store named e = sound_to roots (add_step roots key store) (add_sound roots key store named (sound_from roots store e))
+
+pub add_tree : (roots : Roots) → AreApart roots → (key : Key) (from : Path) (whole store : Tree) → is_key key ≡ true → hurt roots store ≡ None → hurt roots (add_tree_step roots key from whole store) ≡ None
+add_tree roots apart key from whole store named e = sound_to roots (add_tree_step roots key from whole store) (add_tree_sound roots apart key from whole store named (sound_from roots store e))
 
 pub build : (roots : Roots) (key : Key) (spot : Spot) (modules : List Module) (log : List ℕ) (store : Tree) → is_key key ≡ true → is_spot spot ≡ true → is_added roots key store ≡ true → are_targets (map (λ built. built.0) modules) ≡ true
     → hurt roots store ≡ None → hurt roots (build_step roots key spot modules log store) ≡ None
@@ -42,7 +45,7 @@ install roots apart key spot store named spotted built e =
 pub uninstall : (roots : Roots) → AreApart roots → (key : Key) (spot : Spot) (store : Tree) → is_key key ≡ true → is_spot spot ≡ true
     → hurt roots store ≡ None → hurt roots (uninstall_step roots key spot store) ≡ None
 uninstall roots apart key spot store named spotted e =
-    sound_to roots (uninstall_step roots key spot store) (uninstall_sound roots apart key.module key.version spot.kernel spot.arch store (linkable spot spotted) (sound_from roots store e))
+    sound_to roots (uninstall_step roots key spot store) (uninstall_sound roots apart key.module key.version spot.kernel spot.arch store (linkable spot spotted) (sound_from roots store e) (first_so (is_word key.module) (is_version key.version) named) (is_version_of key named) spotted)
 
 pub unbuild : (roots : Roots) → AreApart roots → (key : Key) (spot : Spot) (store : Tree) → is_key key ≡ true → is_spot spot ≡ true
     → hurt roots store ≡ None → hurt roots (unbuild_step roots key spot store) ≡ None

@@ -3,11 +3,13 @@ pub mod Boxes
 pub mod Crash
 pub mod Damage
 pub mod Does
+pub mod Index
 pub mod Job
 pub mod Layout
 pub mod Moves
 pub mod Names
 pub mod Outcome
+pub mod Patch
 pub mod Path
 pub mod Public
 pub mod Read

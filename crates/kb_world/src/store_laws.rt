@@ -9,7 +9,7 @@ ghost use Rattle.kb_world.specs.StorePath.{store_path, path_of, is_ruled};
 ghost use Rattle.kb_world.specs.Targets.{are_targets, targets_text, targets_of};
 ghost use Rattle.kb_world.specs.Boxes.{is_spot, is_built};
 ghost use Rattle.kb_world.specs.Damage.{hurt};
-ghost use Rattle.kb_world.specs.Steps.{Module, add_step, build_step, install_step, uninstall_step, unbuild_step, unadd_step};
+ghost use Rattle.kb_world.specs.Steps.{Module, add_step, add_tree_step, build_step, install_step, uninstall_step, unbuild_step, unadd_step};
 ghost use Rattle.kb_world.specs.declared.roots.Roots.{Roots};
 ghost use Rattle.kb_world.specs.declared.job.Key.{Key};
 ghost use Rattle.kb_world.specs.declared.job.Spot.{Spot};
@@ -35,11 +35,13 @@ pub fn layout_is_the_store()
     ensures { (roots : Roots) (store : Tree) → layout roots store ≡ store }
 {}
 
-/// No step from a store without damage gives one with damage: not Add; not Build, of an added version; not Install,
+/// No step from a store without damage gives one with damage: not Add, nor that of a directory; not Build, of an added version; not Install,
 /// of a version that is built at the spot; not Drop, where the build stays or goes; not Unadd, of a version without
 /// builds. This holds also where something blocks the step, and for whatever modules and log a build leaves.
 pub fn no_step_damages()
     ensures add { (roots : Roots) (key : Key) (store : Tree) → is_key key ≡ true → hurt roots store ≡ None → hurt roots (add_step roots key store) ≡ None }
+    ensures add_tree { (roots : Roots) → AreApart roots → (key : Key) (from : Path) (whole store : Tree) →
+        is_key key ≡ true → hurt roots store ≡ None → hurt roots (add_tree_step roots key from whole store) ≡ None }
     ensures build { (roots : Roots) (key : Key) (spot : Spot) (modules : List Module) (log : List ℕ) (store : Tree) →
         is_key key ≡ true → is_spot spot ≡ true → is_added roots key store ≡ true → are_targets (map (λ built. built.0) modules) ≡ true →
         hurt roots store ≡ None → hurt roots (build_step roots key spot modules log store) ≡ None }
