@@ -1,0 +1,13 @@
+mod PathLaws
+mod Standing
+mod Ends
+mod EditLaws
+mod Parts
+mod MoveLaws
+mod GroupLaws
+mod AgainLaws
+mod PartLaws
+mod Kept
+mod Flat
+mod FrontLaws
+mod KeptLaws
