@@ -11,3 +11,7 @@ mod Kept
 mod Flat
 mod FrontLaws
 mod KeptLaws
+mod Facts
+mod PlaceLaws
+mod Steps
+mod OrderLaws

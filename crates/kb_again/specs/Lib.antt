@@ -1,0 +1,3 @@
+pub mod Sparing
+pub mod Within
+pub mod Unseen
