@@ -15,3 +15,9 @@ mod Facts
 mod PlaceLaws
 mod Steps
 mod OrderLaws
+mod RootLaws
+mod ValidLaws
+mod WriteLaws
+mod RunLaws
+mod PublicLaws
+mod WithinLaws

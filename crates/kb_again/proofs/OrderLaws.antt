@@ -59,7 +59,7 @@ runs_alone r (Drop path ∷ cs) h = absurd (clash h)
 runs_alone r (Wipe path ∷ cs) h = absurd (clash h)
 runs_alone r (DropDir path ∷ cs) h = absurd (clash h)
 runs_alone r (Dir path ∷ cs) h = absurd (clash h)
-runs_alone r (Put root number target ∷ cs) h = absurd (clash h)
+runs_alone r (Put name number target ∷ cs) h = absurd (clash h)
 
 -- DropDirs, and then runs
 record AreSecond (r : Roots) (cs : List Change) : Type 0 where
@@ -86,7 +86,7 @@ second_then r (Run request ∷ cs) h =
 second_then r (Drop path ∷ cs) h = absurd (clash h)
 second_then r (Wipe path ∷ cs) h = absurd (clash h)
 second_then r (Dir path ∷ cs) h = absurd (clash h)
-second_then r (Put root number target ∷ cs) h = absurd (clash h)
+second_then r (Put name number target ∷ cs) h = absurd (clash h)
 
 -- Puts before these
 record ArePuts (r : Roots) (cs : List Change) : Type 0 where
@@ -105,9 +105,9 @@ no_more_puts r cs w = record {
 
 puts_then : (r : Roots) (cs : List Change) → are_in_order 4 cs ≡ true → ArePuts r cs
 puts_then r [] h = record { steps = refl; no_drops = refl; no_wipes = refl; no_dirs = refl }
-puts_then r (Put root number target ∷ cs) h =
+puts_then r (Put name number target ∷ cs) h =
     let rest = puts_then r cs h in
-    record { steps = ap (λ l. act (to_put (staged_path r root number) target) ∷ l) rest.steps; no_drops = rest.no_drops; no_wipes = rest.no_wipes; no_dirs = rest.no_dirs }
+    record { steps = ap (λ l. act (to_put (staged_path r name number) target) ∷ l) rest.steps; no_drops = rest.no_drops; no_wipes = rest.no_wipes; no_dirs = rest.no_dirs }
 puts_then r (DropDir path ∷ cs) h = no_more_puts r (DropDir path ∷ cs) (second_then r (DropDir path ∷ cs) h)
 puts_then r (Run request ∷ cs) h = no_more_puts r (Run request ∷ cs) (second_then r (Run request ∷ cs) h)
 puts_then r (Drop path ∷ cs) h = absurd (clash h)
@@ -132,7 +132,7 @@ dirs_then r [] h = record { steps = refl; no_drops = refl; no_wipes = refl }
 dirs_then r (Dir path ∷ cs) h =
     let rest = dirs_then r cs h in
     record { steps = ap (λ l. act (to_make path) ∷ l) rest.steps; no_drops = rest.no_drops; no_wipes = rest.no_wipes }
-dirs_then r (Put root number target ∷ cs) h = no_more_dirs r (Put root number target ∷ cs) (puts_then r (Put root number target ∷ cs) h)
+dirs_then r (Put name number target ∷ cs) h = no_more_dirs r (Put name number target ∷ cs) (puts_then r (Put name number target ∷ cs) h)
 dirs_then r (DropDir path ∷ cs) h = no_more_dirs r (DropDir path ∷ cs) (puts_then r (DropDir path ∷ cs) h)
 dirs_then r (Run request ∷ cs) h = no_more_dirs r (Run request ∷ cs) (puts_then r (Run request ∷ cs) h)
 dirs_then r (Drop path ∷ cs) h = absurd (clash h)
@@ -155,8 +155,8 @@ first_then r (DropDir path ∷ cs) h =
 first_then r (Dir path ∷ cs) h =
     let all = dirs_then r (Dir path ∷ cs) h in
     record { steps = all.steps; no_drops = all.no_drops; no_wipes = all.no_wipes }
-first_then r (Put root number target ∷ cs) h =
-    let all = dirs_then r (Put root number target ∷ cs) h in
+first_then r (Put name number target ∷ cs) h =
+    let all = dirs_then r (Put name number target ∷ cs) h in
     record { steps = all.steps; no_drops = all.no_drops; no_wipes = all.no_wipes }
 first_then r (Run request ∷ cs) h =
     let rest = runs_alone r cs h in
@@ -186,7 +186,7 @@ wipes_then r [] h = record { steps = refl; no_drops = refl }
 wipes_then r (Wipe path ∷ cs) h = let rest = wipes_then r cs h in record { steps = ap (λ l. act (to_wipe path) ∷ l) rest.steps; no_drops = rest.no_drops }
 wipes_then r (DropDir path ∷ cs) h = no_more_wipes r (DropDir path ∷ cs) (first_then r (DropDir path ∷ cs) h)
 wipes_then r (Dir path ∷ cs) h = no_more_wipes r (Dir path ∷ cs) (first_then r (Dir path ∷ cs) h)
-wipes_then r (Put root number target ∷ cs) h = no_more_wipes r (Put root number target ∷ cs) (first_then r (Put root number target ∷ cs) h)
+wipes_then r (Put name number target ∷ cs) h = no_more_wipes r (Put name number target ∷ cs) (first_then r (Put name number target ∷ cs) h)
 wipes_then r (Run request ∷ cs) h = no_more_wipes r (Run request ∷ cs) (first_then r (Run request ∷ cs) h)
 wipes_then r (Drop path ∷ cs) h = absurd (clash h)
 
@@ -200,5 +200,5 @@ in_groups r (Drop path ∷ cs) h = ap (λ l. act (to_drop path) ∷ l) (in_group
 in_groups r (Wipe path ∷ cs) h = no_more_drops r (Wipe path ∷ cs) (wipes_then r (Wipe path ∷ cs) h)
 in_groups r (DropDir path ∷ cs) h = no_more_drops r (DropDir path ∷ cs) (wipes_then r (DropDir path ∷ cs) h)
 in_groups r (Dir path ∷ cs) h = no_more_drops r (Dir path ∷ cs) (wipes_then r (Dir path ∷ cs) h)
-in_groups r (Put root number target ∷ cs) h = no_more_drops r (Put root number target ∷ cs) (wipes_then r (Put root number target ∷ cs) h)
+in_groups r (Put name number target ∷ cs) h = no_more_drops r (Put name number target ∷ cs) (wipes_then r (Put name number target ∷ cs) h)
 in_groups r (Run request ∷ cs) h = no_more_drops r (Run request ∷ cs) (wipes_then r (Run request ∷ cs) h)

@@ -49,11 +49,11 @@ over_both (a ∷ p) (b ∷ q) h k =
     let ba = and_parts _ _ k in
     λ i. same_bytes a b ab.0 i ∷ over_both p q ab.1 ba.1 i
 
-and_false : (b : Bool) → (b && false) ≡ false
+pub and_false : (b : Bool) → (b && false) ≡ false
 and_false true = refl
 and_false false = refl
 
-not_so : (b : Bool) → not b ≡ true → b ≡ false
+pub not_so : (b : Bool) → not b ≡ true → b ≡ false
 not_so true h = absurd (true≢false (sym h))
 not_so false h = refl
 
