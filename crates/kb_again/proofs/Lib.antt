@@ -21,3 +21,5 @@ mod WriteLaws
 mod RunLaws
 mod PublicLaws
 mod WithinLaws
+mod JournalLaws
+mod UnseenLaws
