@@ -23,3 +23,6 @@ mod PublicLaws
 mod WithinLaws
 mod JournalLaws
 mod UnseenLaws
+mod Soft
+mod SoftLaws
+mod SettledLaws

@@ -53,6 +53,22 @@ pub child_above : (h : Path) (n : List ℕ) → is_above h (child h n) ≡ true
 child_above [] n = refl
 child_above (a ∷ h) n = above_cons a a h (child h n) (bytes_itself a) (child_above h n)
 
+pub same_front : (p q : Path) (m n : List ℕ) → child p m ≡ child q n → p ≡ q
+same_front [] [] m n e = refl
+same_front [] (y ∷ []) m n e = absurd (cc)
+same_front [] (y ∷ z ∷ q) m n e = absurd (cc)
+same_front (x ∷ []) [] m n e = absurd (cc)
+same_front (x ∷ z ∷ p) [] m n e = absurd (cc)
+same_front (x ∷ p) (y ∷ q) m n e =
+    let head : x ≡ y = cc in
+    let tail : child p m ≡ child q n = cc in
+    let rest = same_front p q m n tail in
+    λ i. head i ∷ rest i
+
+pub same_last : (p : Path) (m n : List ℕ) → child p m ≡ child p n → m ≡ n
+same_last [] m n e = cc
+same_last (x ∷ p) m n e = let tail : child p m ≡ child p n = cc in same_last p m n tail
+
 pub over_or_above : (a b r : Path) → is_over a r ≡ true → is_over b r ≡ true → (is_over a b ≡ true) ⊎ (is_above b a ≡ true)
 over_or_above a b r h k = elim (comparable r a b h k) [
     | inr under ↦ inl under
