@@ -26,3 +26,6 @@ mod UnseenLaws
 mod Soft
 mod SoftLaws
 mod SettledLaws
+mod BetweenLaws
+mod FactLaws
+mod ChangeLaws

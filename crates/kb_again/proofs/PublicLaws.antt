@@ -133,6 +133,6 @@ public_left f r s t u roots valid whole whole_u left =
     ∙ sym (ap (public_tree r) (steps_all f r s s.runs t))
 
 -- steps leave a tree whole
-step_whole : (f : Script) (r : Roots) (x : Step) (t : Tree) → IsWhole t → IsWhole (do_step f r x t)
+pub step_whole : (f : Script) (r : Roots) (x : Step) (t : Tree) → IsWhole t → IsWhole (do_step f r x t)
 step_whole f r (act c) t whole = change_whole c t whole
 step_whole f r (run c) t whole = run_whole f r c t whole
