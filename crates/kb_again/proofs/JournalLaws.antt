@@ -74,7 +74,7 @@ all_append : {A : Type 0} (P : A → Type 0) (xs ys : List A) → AllByRecursion
 all_append P [] ys a b = b
 all_append P (x ∷ xs) ys a b = (a.0, all_append P xs ys a.1 b)
 
-all_map : {A B : Type 0} (P : B → Type 0) (h : A → B) (xs : List A) → ((x : A) → IsMember x xs → P (h x)) → AllByRecursion P (map h xs)
+pub all_map : {A B : Type 0} (P : B → Type 0) (h : A → B) (xs : List A) → ((x : A) → IsMember x xs → P (h x)) → AllByRecursion P (map h xs)
 all_map P h [] each = tt
 all_map P h (x ∷ xs) each = (each x (inl refl), all_map P h xs (λ y in_it. each y (inr in_it)))
 

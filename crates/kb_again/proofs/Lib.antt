@@ -29,3 +29,5 @@ mod SettledLaws
 mod BetweenLaws
 mod FactLaws
 mod ChangeLaws
+mod ReplyLaws
+mod Laws

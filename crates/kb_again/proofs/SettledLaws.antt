@@ -158,7 +158,7 @@ module _ (r : Roots) (s : Lists) (roots : AreRoots r) (valid : IsValidUnder r s)
               own_settled run.0 run.1 (ap (is_settled_by run.0.area) w.3 ∙ settles_list w.0 w.1 w.2 (subst (IsFit r s.runs) w.3 u.fits) run.0 run.1 (ap (reaches run.0.area) (sym w.4) ∙ run.2) (ap (is_under_one (written_roots r)) (sym w.4) ∙ parts.0) (ap (is_open r) (sym w.4) ∙ inner.0))
           ]
 
-all_of : (P Q : Area → Type 0) → ((a : Area) → P a → Q a) → (soft : List Area) → AllByRecursion P soft → AllByRecursion Q soft
+pub all_of : (P Q : Area → Type 0) → ((a : Area) → P a → Q a) → (soft : List Area) → AllByRecursion P soft → AllByRecursion Q soft
 all_of P Q f [] all = tt
 all_of P Q f (a ∷ soft) all = (f a all.0, all_of P Q f soft all.1)
 
