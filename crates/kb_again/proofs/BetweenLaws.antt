@@ -1,5 +1,5 @@
 -- What is left while the steps are done, and while what is staged goes, ends alike.
-use Rattle.std.proofs.Common.{◌≡◌, ◌⊎◌, inl, inr, ℕ, Bool, true, false, not, ◌&&◌, ◌||◌, List, [], ◌∷◌, ◌++◌, map, take, codes, Option, Some, None, refl, sym, ap, ◌∙◌, subst, append_assoc}
+use Rattle.std.proofs.Common.{◌≡◌, ◌⊎◌, inl, inr, true, false, not, ◌||◌, List, [], ◌∷◌, ◌++◌, map, take, codes, Option, None, refl, sym, ap, ◌∙◌, subst, append_assoc}
 use Rattle.std.specs.Prelude.{bytes_eq}
 use Rattle.std.specs.List.{list_any, AllByRecursion}
 use Rattle.std.proofs.lemmas.List.{append-nil}
@@ -28,7 +28,7 @@ use Rattle.kb_again.proofs.PublicLaws.{turn_map, steps_all, public_left}
 use Rattle.kb_again.proofs.RootLaws.{above_child, child_above, same_front, same_last, inside_some, not_open, above_some, private_entry, disjoint_below, is_root, untouched_private}
 use Rattle.kb_again.proofs.Soft.{IsLeftIn, run_areas, IsFit, IsSoftBehind}
 use Rattle.kb_again.proofs.SoftLaws.{soft_behind, initrd_open}
-use Rattle.kb_again.proofs.Steps.{run_request, after_runs, IsBehind, among_groups, among_runs, Step, act, run, do_step, do_steps, steps_of, IsCut}
+use Rattle.kb_again.proofs.Steps.{after_runs, IsBehind, among_groups, among_runs, Step, act, run, do_step, do_steps, steps_of, IsCut}
 use Rattle.kb_again.proofs.ValidLaws.{groups_valid}
 use Rattle.kb_again.proofs.WithinLaws.{within_is_part}
 
@@ -78,7 +78,6 @@ areas_in [] = []
 areas_in (act c ∷ xs) = areas_in xs
 areas_in (run c ∷ xs) = c.area ∷ areas_in xs
 
-
 member_run : (c : Request) (cs : List Act) (rs : List Request) → IsMember (run c) (map act cs ++ map run rs) → IsMember c rs
 member_run c [] [] h = absurd h
 member_run c [] (x ∷ rs) (inl same) = let is : c ≡ x = cc in inl is
@@ -106,9 +105,9 @@ spares_fit r runs (a ∷ areas) soft fit spares = (fit.0, spares_fit r runs area
 retarget : (soft : List Area) (q : Path) (was other left : Option Node) → list_any (λ a. lets_differ a q was left) soft ≡ true → (list_any (λ a. lets_differ a q other left) soft ≡ true) ⊎ (is_dir left ≡ false)
 retarget [] q was other left h = absurd (true≢false (sym h))
 retarget (a ∷ soft) q was other left h = elim (or_cases _ _ h) [
-    | inl here ↦ one a here
-    | inr later ↦ elim (retarget soft q was other left later) [ inl there ↦ inl (or_right _ _ there) | inr file ↦ inr file ]
-  ]
+  | inl here ↦ one a here
+  | inr later ↦ elim (retarget soft q was other left later) [ inl there ↦ inl (or_right _ _ there) | inr file ↦ inr file ]
+]
   where
     one : (a : Area) → lets_differ a q was left ≡ true → ((lets_differ a q other left || list_any (λ a. lets_differ a q other left) soft) ≡ true) ⊎ (is_dir left ≡ false)
     one Nothing h = absurd (true≢false (sym h))
@@ -122,18 +121,18 @@ lets_file (Names p ns) q was mid left h file = and_from _ _ (and_parts _ _ h).0 
 
 left_then : (a : Area) (soft : List Area) (w v u : Tree) → IsLeftIn (a ∷ []) w v → IsLeftIn soft v u → IsLeftIn (a ∷ soft) w u
 left_then a soft w v u one two q = elim (two q) [
-    | inl same ↦ elim (one q) [
-        | inl was ↦ inl (same ∙ was)
-        | inr lets ↦ inr (or_left _ _ (ap (lets_differ a q (node_at w q)) same ∙ alone lets))
-      ]
-    | inr more ↦ elim (one q) [
-        | inl was ↦ inr (or_right _ _ (ap (λ o. list_any (λ b. lets_differ b q o (node_at u q)) soft) (sym was) ∙ more))
-        | inr lets ↦ elim (retarget soft q (node_at v q) (node_at w q) (node_at u q) more) [
-            | inl there ↦ inr (or_right _ _ there)
-            | inr file ↦ inr (or_left _ _ (lets_file a q (node_at w q) (node_at v q) (node_at u q) (alone lets) file))
-          ]
-      ]
+  | inl same ↦ elim (one q) [
+    | inl was ↦ inl (same ∙ was)
+    | inr lets ↦ inr (or_left _ _ (ap (lets_differ a q (node_at w q)) same ∙ alone lets))
   ]
+  | inr more ↦ elim (one q) [
+    | inl was ↦ inr (or_right _ _ (ap (λ o. list_any (λ b. lets_differ b q o (node_at u q)) soft) (sym was) ∙ more))
+    | inr lets ↦ elim (retarget soft q (node_at v q) (node_at w q) (node_at u q) more) [
+      | inl there ↦ inr (or_right _ _ there)
+      | inr file ↦ inr (or_left _ _ (lets_file a q (node_at w q) (node_at v q) (node_at u q) (alone lets) file))
+    ]
+  ]
+]
   where
     alone : (lets_differ a q (node_at w q) (node_at v q) || false) ≡ true → lets_differ a q (node_at w q) (node_at v q) ≡ true
     alone h = elim (or_cases _ _ h) [ inl is ↦ is | inr none ↦ absurd (true≢false (sym none)) ]
@@ -157,8 +156,8 @@ module _ (f : Script) (r : Roots) (s : Lists) (soft : List Area) (t u : Tree) (r
   behind_runs taken left areas e fit l =
       let b : IsSoftBehind r s (after_runs f r s taken t) u = soft_behind r s areas (after_runs f r s taken t) u roots valid fit l in
       let ran : node_at (after_runs f r s taken t) (intent_path r) ≡ node_at t (intent_path r) =
-          ap (λ v. node_at v (intent_path r)) (sym (steps_all f r s taken t)) ∙ journal_stays f r s (map act (acts_of (groups_of r s)) ++ map run taken) (map run left) t roots valid
-          (append_assoc (map act (acts_of (groups_of r s))) (map run taken) (map run left) ∙ ap (λ l. map act (acts_of (groups_of r s)) ++ l) (sym (map_append run taken left) ∙ ap (map run) e)) in
+      ap (λ v. node_at v (intent_path r)) (sym (steps_all f r s taken t)) ∙ journal_stays f r s (map act (acts_of (groups_of r s)) ++ map run taken) (map run left) t roots valid
+      (append_assoc (map act (acts_of (groups_of r s))) (map run taken) (map run left) ∙ ap (λ l. map act (acts_of (groups_of r s)) ++ l) (sym (map_append run taken left) ∙ ap (map run) e)) in
       ends_alike (b.journal ∙ ran) (among_runs taken left e b.steady b.dirs (λ c h. inl (b.staged c h)))
     where
       map_append : {A B : Type 0} (h : A → B) (xs ys : List A) → map h (xs ++ ys) ≡ map h xs ++ map h ys
@@ -174,7 +173,7 @@ module _ (f : Script) (r : Roots) (s : Lists) (soft : List Area) (t u : Tree) (r
       let b : IsSoftBehind r s v u = soft_behind r s areas v u roots valid fit l in
       let before : node_at (do_steps f r front t) (intent_path r) ≡ node_at t (intent_path r) = journal_stays f r s front (act c ∷ back) t roots valid e in
       let after : node_at (do_act c (do_steps f r front t)) (intent_path r) ≡ node_at t (intent_path r) =
-          ap (λ x. node_at x (intent_path r)) (sym (in_turn-append (do_step f r) front (act c ∷ []) t)) ∙ journal_stays f r s (front ++ act c ∷ []) back t roots valid (append_assoc front (act c ∷ []) back ∙ e) in
+      ap (λ x. node_at x (intent_path r)) (sym (in_turn-append (do_step f r) front (act c ∷ []) t)) ∙ journal_stays f r s (front ++ act c ∷ []) back t roots valid (append_assoc front (act c ∷ []) back ∙ e) in
       ends_alike (b.journal ∙ at_journal c within before after)
       (among_groups v (within_is_part (groups_of r s) w.0 w.1 c t v (groups_valid r s roots valid) w.3 (subst (λ x. IsCut c x v) is within)) whole_v b.steady b.dirs b.staged)
     where
@@ -220,13 +219,13 @@ not_steady r q h steady = not_open r q (or_left _ _ (staging_private r q h)) (an
 
 not_beside_staged : (r : Roots) → AreRoots r → (q : Path) → is_under_one (staging_paths r) q ≡ true → is_beside r q ≡ true → ⊥
 not_beside_staged r roots q h beside = elim (or_cases _ _ beside) [
-    | inl initrd ↦ not_open r q (or_left _ _ (staging_private r q h)) (initrd_open r roots q initrd)
-    | inr above ↦
+  | inl initrd ↦ not_open r q (or_left _ _ (staging_private r q h)) (initrd_open r roots q initrd)
+  | inr above ↦
       let x = above_some r q above in
       let w = inside_some (private_places r) q (staging_private r q h) in
       let f = private_entry r w.0 w.1 in
       disjoint_below (all_roots r) roots.disjoint f.0 x.0 f.2 x.1 (above_over_above f.0 w.0 x.0 (subst (λ y. is_above f.0 y ≡ true) (sym f.3) (child_above f.0 f.1)) (over_over w.0 q x.0 w.2 (above_over q x.0 x.2)))
-  ]
+]
 
 pub staging_keeps : (f : Script) (r : Roots) (s : Lists) (soft : List Area) (t v u : Tree) → AreRoots r → IsValidUnder r s → IsWhole t → AllByRecursion (IsSparing r (run_areas s.runs)) soft
     → ((q : Path) → (node_at v q ≡ node_at (do_steps f r (steps_of r s) t) q) ⊎ ((is_under_one (staging_paths r) q ≡ true) × (node_at v q ≡ None)))
@@ -242,41 +241,41 @@ staging_keeps f r s soft t v u roots valid whole spares unstaged left whole_u =
     ] in
     ends_alike f r s soft t u roots valid whole spares whole_u (b.journal ∙ at_journal)
     (among_runs s.runs [] (append-nil s.runs)
-      (λ q steady. elim (gone q) [
-        | inl same ↦ elim (b.steady q steady) [ inl now ↦ inl (now ∙ same) | inr soft_at ↦ inr (soft_at.0, ap is_dir (sym same) ∙ soft_at.1, soft_at.2) ]
-        | inr staged ↦ absurd (not_steady r q staged.0 steady)
-      ])
-      (λ q beside. elim (gone q) [
-        | inl same ↦ ap is_dir (sym same) ∙ b.dirs q beside
-        | inr staged ↦ absurd (not_beside_staged r roots q staged.0 beside)
-      ])
-      (λ c h. elim (gone (staged_at r c)) [
-        | inl same ↦ inl (b.staged c h ∙ same)
-        | inr staged ↦ inr (b.staged c h ∙ staged.1)
-      ]))
+    (λ q steady. elim (gone q) [
+      | inl same ↦ elim (b.steady q steady) [ inl now ↦ inl (now ∙ same) | inr soft_at ↦ inr (soft_at.0, ap is_dir (sym same) ∙ soft_at.1, soft_at.2) ]
+      | inr staged ↦ absurd (not_steady r q staged.0 steady)
+    ])
+    (λ q beside. elim (gone q) [
+      | inl same ↦ ap is_dir (sym same) ∙ b.dirs q beside
+      | inr staged ↦ absurd (not_beside_staged r roots q staged.0 beside)
+    ])
+    (λ c h. elim (gone (staged_at r c)) [
+      | inl same ↦ inl (b.staged c h ∙ same)
+      | inr staged ↦ inr (b.staged c h ∙ staged.1)
+    ]))
   where
     not_staged_journal : (r : Roots) → AreRoots r → is_under_one (staging_paths r) (intent_path r) ≡ true → ⊥
     not_staged_journal r roots h = elim (or_cases _ _ h) [
-        | inl d ↦ one r.dkms (is_root r root_name.Dkms) d
-        | inr h1 ↦ elim (or_cases _ _ h1) [
-          | inl k ↦ one r.src (is_root r root_name.Src) k
-          | inr h2 ↦ elim (or_cases _ _ h2) [
-            | inl l ↦ one r.modules (is_root r root_name.Modules) l
-            | inr h3 ↦ elim (or_cases _ _ h3) [
-              | inl b ↦ one r.boot (is_root r root_name.Boot) b
-              | inr none ↦ true≢false (sym none)
-            ]
+      | inl d ↦ one r.dkms (is_root r root_name.Dkms) d
+      | inr h1 ↦ elim (or_cases _ _ h1) [
+        | inl k ↦ one r.src (is_root r root_name.Src) k
+        | inr h2 ↦ elim (or_cases _ _ h2) [
+          | inl l ↦ one r.modules (is_root r root_name.Modules) l
+          | inr h3 ↦ elim (or_cases _ _ h3) [
+            | inl b ↦ one r.boot (is_root r root_name.Boot) b
+            | inr none ↦ true≢false (sym none)
           ]
         ]
       ]
+    ]
       where
         names_differ : codes ".kb-staged" ≡ codes ".intent" → ⊥
         names_differ e = true≢false (ap (bytes_eq (codes ".kb-staged")) e)
 
         one : (x : Path) → is_listed x (all_roots r) ≡ true → is_over (child x (codes ".kb-staged")) (intent_path r) ≡ true → ⊥
         one x is under = elim (over_cases (child x (codes ".kb-staged")) (intent_path r) under) [
-            | inl same ↦
+          | inl same ↦
               let roots_same : x ≡ r.dkms = same_front x r.dkms (codes ".kb-staged") (codes ".intent") same in
               names_differ (same_last x (codes ".kb-staged") (codes ".intent") (same ∙ ap (λ p. child p (codes ".intent")) (sym roots_same)))
-            | inr below ↦ disjoint_below (all_roots r) roots.disjoint x r.dkms is (is_root r root_name.Dkms) (above_over_above x (child x (codes ".kb-staged")) r.dkms (child_above x (codes ".kb-staged")) (above_child (child x (codes ".kb-staged")) r.dkms (codes ".intent") below))
-          ]
+          | inr below ↦ disjoint_below (all_roots r) roots.disjoint x r.dkms is (is_root r root_name.Dkms) (above_over_above x (child x (codes ".kb-staged")) r.dkms (child_above x (codes ".kb-staged")) (above_child (child x (codes ".kb-staged")) r.dkms (codes ".intent") below))
+        ]

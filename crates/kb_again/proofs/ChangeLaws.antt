@@ -1,36 +1,24 @@
 -- Changes as steps: doing them, cutting them off, and what their runs answer.
-use Rattle.std.proofs.Common.{◌≡◌, ◌⊎◌, inl, inr, Bool, true, false, cond, List, [], ◌∷◌, ◌++◌, map, take, Option, Some, None, is_some, refl, sym, ap, ◌∙◌, subst}
-use Rattle.std.specs.List.{AllByRecursion}
-use Rattle.std.proofs.lemmas.Bool.{true≢false}
-use Rattle.kb_world.specs.Area.{IsLeft}
-use Rattle.kb_world.specs.Path.{Path, parent}
-use Rattle.kb_world.specs.Roots.{AreApart}
-use Rattle.kb_world.specs.Script.{Script, answer, answer_in}
-use Rattle.kb_world.specs.Tree.{Tree, node_at, is_dir, IsFormed}
-use Rattle.kb_world.specs.View.{view_of}
-use Rattle.kb_world.specs.declared.child.Area.{Area}
-use Rattle.kb_world.specs.declared.child.Reply.{Reply}
-use Rattle.kb_world.specs.declared.child.Request.{Request}
+use Rattle.std.proofs.Common.{◌≡◌, ◌⊎◌, inl, inr, true, List, [], ◌∷◌, ◌++◌, map, take, refl, sym, ap, ◌∙◌, subst}
+use Rattle.kb_world.specs.Path.{parent}
+use Rattle.kb_world.specs.Script.{Script}
+use Rattle.kb_world.specs.Tree.{Tree, node_at, IsFormed}
 use Rattle.kb_world.specs.declared.roots.Roots.{Roots}
-use Rattle.kb_world.specs.declared.tree.Node.TheVariants as node
-use Rattle.kb_changes.specs.Change.{staged_path, do_change, done, request_at, requests_of, replies_of}
-use Rattle.kb_changes.specs.Groups.{runs_in}
+use Rattle.kb_changes.specs.Change.{do_change, done}
 use Rattle.kb_changes.specs.Valid.{is_valid}
 use Rattle.kb_changes.specs.declared.change.Change.{Change}
 use Rattle.kb_changes.specs.declared.change.Change.TheVariants.{Dir, Put, Drop, DropDir, Wipe, Run}
-use Rattle.kb_again.specs.Sparing.{IsSparing, areas_of}
-use Rattle.kb_again.specs.Within.{IsWithin, IsWithinNext}
+use Rattle.kb_again.specs.Sparing.{areas_of}
+use Rattle.kb_again.specs.Within.{IsWithinNext}
 use Rattle.kb_again.proofs.BetweenLaws.{IsCutNext, areas_in}
 use Rattle.kb_again.proofs.EditLaws.{dir_is, dir_test}
-use Rattle.kb_again.proofs.Ends.{in_turn}
-use Rattle.kb_again.proofs.FactLaws.{IsKnownValid, known_valid}
+use Rattle.kb_again.proofs.FactLaws.{known_valid}
 use Rattle.kb_again.proofs.Facts.{lists_of}
 use Rattle.kb_again.proofs.Kept.{IsWhole}
 use Rattle.kb_again.proofs.KeptLaws.{turn_whole}
 use Rattle.kb_again.proofs.OrderLaws.{in_groups}
 use Rattle.kb_again.proofs.PublicLaws.{step_whole}
-use Rattle.kb_again.proofs.Soft.{IsLeftIn, run_areas}
-use Rattle.kb_again.proofs.Steps.{Step, act, run, step_of, do_step, do_steps, steps_of}
+use Rattle.kb_again.proofs.Steps.{step_of, do_step, do_steps, steps_of}
 use Rattle.kb_again.proofs.WriteLaws.{run_is}
 
 -- ---- formed trees

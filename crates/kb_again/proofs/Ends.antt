@@ -1,15 +1,12 @@
 -- The changes of an intent, on trees. A change does nothing where its condition isn't met.
-use Rattle.std.specs.Prelude.{◌≡◌, ◌⊎◌, ℕ, Bool, true, false, not, ◌&&◌, ◌||◌, List, [], ◌∷◌, is_some, cond, Some, None}
-use Rattle.std.specs.declared.option.Option.{Option}
+use Rattle.std.specs.Prelude.{◌≡◌, ◌⊎◌, Bool, true, false, not, ◌&&◌, List, [], ◌∷◌, is_some, cond, None}
 use Rattle.std.specs.List.{list_any}
-use Rattle.kb_world.specs.TreeLaws.{same_path}
 use Rattle.kb_world.specs.Tree.{node_at, with_node, without, edited, is_dir, is_leaf, Tree}
 use Rattle.std.specs.FinMap.{retain_keys, keys}
-use Rattle.kb_again.proofs.PathLaws.{is_over, is_above, is_listed}
+use Rattle.kb_again.proofs.PathLaws.{is_above, is_listed}
 use Rattle.kb_world.specs.Path.{is_under}
 use Rattle.kb_world.specs.Roots.{is_below}
-use Rattle.kb_world.specs.declared.tree.Node.{Node}
-use Rattle.kb_world.specs.Path.{path_cmp, parent, Path}
+use Rattle.kb_world.specs.Path.{parent, Path}
 use Rattle.kb_again.proofs.Standing.{Standing}
 use Rattle.kb_world.specs.declared.tree.Node.TheVariants as node
 

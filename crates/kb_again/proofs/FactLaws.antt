@@ -1,28 +1,26 @@
 -- The test of valid changes gives what is known of the lists of their groups.
-use Rattle.std.proofs.Common.{◌≡◌, ◌⊎◌, inl, inr, ℕ, Bool, true, false, not, cond, ◌&&◌, ◌||◌, List, [], ◌∷◌, ◌++◌, map, length, drop, codes, Option, Some, None, refl, sym, ap, ◌∙◌, subst, append_assoc}
-use Rattle.std.specs.Prelude.{bytes_eq, filter_map}
-use Rattle.std.specs.List.{list_all, list_any, cons_option}
+use Rattle.std.proofs.Common.{◌≡◌, ◌⊎◌, inl, inr, ℕ, Bool, true, false, not, ◌&&◌, ◌||◌, List, [], ◌∷◌, ◌++◌, map, length, drop, codes, Option, Some, None, refl, sym, ap, ◌∙◌, subst, append_assoc}
+use Rattle.std.specs.Prelude.{bytes_eq}
+use Rattle.std.specs.List.{list_all, list_any}
 use Rattle.std.specs.Cmp.Lexicographic.{pointwise}
-use Rattle.std.proofs.lemmas.Bool.{cases_Bool, true≢false, and_parts, or_cases, or_left, or_right}
-use Rattle.kb_world.specs.Names.{is_word, is_version, is_kernel}
+use Rattle.std.proofs.lemmas.Bool.{true≢false, and_parts, or_cases, or_left, or_right}
 use Rattle.kb_world.specs.Path.{Path, child, is_under}
 use Rattle.kb_world.specs.Roots.{is_below}
 use Rattle.kb_world.specs.StorePath.{key_of, is_key}
 use Rattle.kb_world.specs.Tree.{name_in}
-use Rattle.kb_world.specs.TreeLaws.{same_path, same_path-true}
+use Rattle.kb_world.specs.TreeLaws.{same_path-true}
 use Rattle.kb_world.specs.View.{index_names}
 use Rattle.kb_world.specs.declared.child.Area.{Area}
 use Rattle.kb_world.specs.declared.child.Area.TheVariants.{Nothing, Under, Names}
 use Rattle.kb_world.specs.declared.child.Request.{Request}
 use Rattle.kb_world.specs.declared.roots.Roots.{Roots}
 use Rattle.kb_world.proofs.PathLaws.{under-append, drop-front}
-use Rattle.kb_changes.specs.Groups.{drop_of, wipe_of, drop_dir_of, dir_of, target_of, staged_of, run_of, makes, drops_in, wipes_in, drop_dirs_in, first_drop_dirs, second_drop_dirs, dirs_in, targets_in, staged_in, runs_in}
-use Rattle.kb_changes.specs.Valid.{are_in_order, deepest_first, deepest_last, are_ordered, is_among_paths, none_among, none_under, none_below, all_differ, are_version_names, is_version_dir, is_scratch_wiped, are_compatible, written_roots, new_intent_path, is_kept_out, kept_out_paths, is_initrd, is_changeable, is_well_placed, same_paths, is_kernel_name, is_fit_area, is_fit_run, is_valid}
+use Rattle.kb_changes.specs.Groups.{drops_in, wipes_in, drop_dirs_in, first_drop_dirs, second_drop_dirs, dirs_in, targets_in, staged_in, runs_in}
+use Rattle.kb_changes.specs.Valid.{are_in_order, deepest_first, deepest_last, are_ordered, is_among_paths, none_among, none_under, none_below, all_differ, are_version_names, is_version_dir, is_scratch_wiped, are_compatible, written_roots, new_intent_path, is_kept_out, is_initrd, is_changeable, is_well_placed, same_paths, is_kernel_name, is_fit_area, is_fit_run, is_valid}
 use Rattle.kb_changes.specs.declared.change.Change.{Change}
 use Rattle.kb_changes.specs.declared.change.Change.TheVariants.{Dir, Put, Drop, DropDir, Wipe, Run}
 use Rattle.kb_again.proofs.Ends.{is_under_one, IsMember, IsUpward, IsDownward}
-use Rattle.kb_again.proofs.Facts.{StagedPut, Lists, put_in, puts_in, lists_of, staged_at, targets, changed_paths, staging_paths, untouched, build_at, AreDifferent, IsIndexRun, IsValidUnder}
-use Rattle.kb_again.proofs.FrontLaws.{listed_left}
+use Rattle.kb_again.proofs.Facts.{StagedPut, puts_in, lists_of, staged_at, targets, changed_paths, staging_paths, untouched, build_at, AreDifferent, IsIndexRun, IsValidUnder}
 use Rattle.kb_again.proofs.PathLaws.{is_over, is_above, is_listed, same_bytes, listed_cons, listed_first, listed_more}
 use Rattle.kb_again.proofs.PlaceLaws.{entry_is}
 use Rattle.kb_again.proofs.RootLaws.{of_all}
@@ -49,9 +47,9 @@ downward (p ∷ ps) h =
 in_first : (cs : List Change) (q : Path) → is_listed q (first_drop_dirs cs) ≡ true → is_listed q (drop_dirs_in cs) ≡ true
 in_first [] q h = h
 in_first (DropDir path ∷ cs) q h = elim (listed_cons q path (first_drop_dirs cs) h) [
-    | inl same ↦ listed_first q path (drop_dirs_in cs) same
-    | inr later ↦ listed_more q path (drop_dirs_in cs) (in_first cs q later)
-  ]
+  | inl same ↦ listed_first q path (drop_dirs_in cs) same
+  | inr later ↦ listed_more q path (drop_dirs_in cs) (in_first cs q later)
+]
 in_first (Dir path ∷ cs) q h = absurd (true≢false (sym h))
 in_first (Put name number target ∷ cs) q h = absurd (true≢false (sym h))
 in_first (Drop path ∷ cs) q h = in_first cs q h
@@ -94,11 +92,13 @@ different : (r : Roots) (cs : List StagedPut) → all_differ (map (λ c. c.targe
 different r [] h k = tt
 different r (c ∷ cs) h k =
     let apart = and_parts _ _ h in
-    let apart_staged = and_parts _ _ k in
-    ((λ d in_it. (
-      (λ same. no _ apart.0 (subst (λ x. is_listed x (map (λ e. e.target) cs) ≡ true) (sym same) (mapped_member (λ e. e.target) cs d in_it))),
-      (λ same. no _ apart_staged.0 (subst (λ x. is_listed x (map (staged_at r) cs) ≡ true) (sym same) (mapped_member (staged_at r) cs d in_it))))),
-    different r cs apart.1 apart_staged.1)
+    let apart_staged = and_parts _ _ k in (
+      (λ d in_it. (
+        (λ same. no _ apart.0 (subst (λ x. is_listed x (map (λ e. e.target) cs) ≡ true) (sym same) (mapped_member (λ e. e.target) cs d in_it))),
+        (λ same. no _ apart_staged.0 (subst (λ x. is_listed x (map (staged_at r) cs) ≡ true) (sym same) (mapped_member (staged_at r) cs d in_it))),
+      )),
+      different r cs apart.1 apart_staged.1,
+    )
 
 -- ---- where changes are made
 
@@ -140,9 +140,9 @@ placed r (Run request ∷ cs) h =
 listed_either : (q : Path) (ps qs : List Path) → is_listed q (ps ++ qs) ≡ true → (is_listed q ps ≡ true) ⊎ (is_listed q qs ≡ true)
 listed_either q [] qs h = inr h
 listed_either q (p ∷ ps) qs h = elim (listed_cons q p (ps ++ qs) h) [
-    | inl same ↦ inl (listed_first q p ps same)
-    | inr later ↦ elim (listed_either q ps qs later) [ inl there ↦ inl (listed_more q p ps there) | inr other ↦ inr other ]
-  ]
+  | inl same ↦ inl (listed_first q p ps same)
+  | inr later ↦ elim (listed_either q ps qs later) [ inl there ↦ inl (listed_more q p ps there) | inr other ↦ inr other ]
+]
 
 -- each path that a change speaks of may be changed
 changeable : (r : Roots) (cs : List Change) → ArePlaced r cs → (q : Path) → is_listed q (changed_paths (lists_of cs)) ≡ true → is_changeable r q ≡ true
@@ -245,12 +245,15 @@ fit_area r drops c (Names directory names) e h =
     let h4 = and_parts _ _ h3.0 in
     let k = kernel_of (name_in r.modules directory) h4.0 in
     let dir_is : directory ≡ child r.modules k.0 = entry_is r.modules directory k.0 k.1 in
-    inr (k.0, record {
-      area = e ∙ (λ i. Names (dir_is i) (same_names names index_names h4.1 i));
-      dir = same_path-true c.dir r.base h3.1;
-      seen = same_listed c.seen (directory ∷ []) h2.1 ∙ ap (λ d. d ∷ []) dir_is;
-      dropped = λ n in_it. ap (λ d. is_listed (child d n) drops) (sym dir_is) ∙ each_name (λ name. is_among_paths drops (child directory name)) index_names h1.1 n in_it;
-    })
+    inr (
+      k.0,
+      record {
+        area = e ∙ (λ i. Names (dir_is i) (same_names names index_names h4.1 i));
+        dir = same_path-true c.dir r.base h3.1;
+        seen = same_listed c.seen (directory ∷ []) h2.1 ∙ ap (λ d. d ∷ []) dir_is;
+        dropped = λ n in_it. ap (λ d. is_listed (child d n) drops) (sym dir_is) ∙ each_name (λ name. is_among_paths drops (child directory name)) index_names h1.1 n in_it;
+      },
+    )
 
 fit_runs : (r : Roots) (drops : List Path) (runs : List Request) → list_all (is_fit_run r drops) runs ≡ true → (c : Request) → IsMember c runs → IsRunOf r drops c
 fit_runs r drops [] h c in_it = absurd in_it
@@ -280,7 +283,7 @@ known_valid r cs h =
     let c3 = and_parts _ (none_among (second_drop_dirs cs) (targets_in cs)) c4.0 in
     let c2 = and_parts (none_under (wipes_in cs) (targets_in cs)) (none_among (drops_in cs) (targets_in cs)) c3.0 in
     let at : (c : StagedPut) → IsMember c (puts_in cs) → is_listed c.target (targets_in cs) ≡ true = λ c in_it.
-      ap (is_listed c.target) (targets_are cs) ∙ mapped_member (λ e. e.target) (puts_in cs) c in_it in
+    ap (is_listed c.target) (targets_are cs) ∙ mapped_member (λ e. e.target) (puts_in cs) c in_it in
     let may : (q : Path) → is_listed q (changed_paths (lists_of cs)) ≡ true → IsChangeable r q = λ q listed. changeable_parts r q (changeable r cs (placed r cs well_placed.1) q listed) in
     record {
       order = first.0;
@@ -294,14 +297,14 @@ known_valid r cs h =
         different = different r (puts_in cs) (ap all_differ (sym (targets_are cs)) ∙ c4.1) (ap all_differ (sym (staged_are r cs)) ∙ c5.1);
         dir_not_wiped = λ q listed is. no _ (of_all (λ path. not (list_any (is_under path) (wipes_in cs))) (dirs_in cs) c6.1 q listed) is;
         second_not_below = λ q x listed below later.
-          no _ (of_all (λ path. not (list_any (is_below path) (first_drop_dirs cs))) (second_drop_dirs cs) c7.1 x later) (below_some (first_drop_dirs cs) q x listed below);
+            no _ (of_all (λ path. not (list_any (is_below path) (first_drop_dirs cs))) (second_drop_dirs cs) c7.1 x later) (below_some (first_drop_dirs cs) q x listed below);
         build_wiped = λ m v keyed either. scratch_wiped r cs c8.1 m v keyed (elim either [ inl listed ↦ in_first cs _ listed | inr listed ↦ in_second cs _ listed ]);
         below_root = λ q listed. above_one (written_roots r) q (may q listed).below;
         not_inside = λ q listed is.
-          elim (or_cases (is_kept_out r q) (is_under q (new_intent_path r)) (sym (untouched_is r q) ∙ is)) [
-            | inl out ↦ no (is_kept_out r q) (may q listed).kept_out out
-            | inr new ↦ no (is_under q (new_intent_path r)) (may q listed).new new
-          ];
+            elim (or_cases (is_kept_out r q) (is_under q (new_intent_path r)) (sym (untouched_is r q) ∙ is)) [
+              | inl out ↦ no (is_kept_out r q) (may q listed).kept_out out
+              | inr new ↦ no (is_under q (new_intent_path r)) (may q listed).new new
+            ];
         no_initrd = λ q listed is. no (is_initrd r q) (may q listed).initrd is;
         runs = fit_runs r (drops_in cs) (runs_in cs) runs_fit.1;
       };
@@ -310,13 +313,13 @@ known_valid r cs h =
     below_some : (ps : List Path) (q x : Path) → is_listed q ps ≡ true → is_above q x ≡ true → list_any (is_below x) ps ≡ true
     below_some [] q x listed below = absurd (true≢false (sym listed))
     below_some (p ∷ ps) q x listed below = elim (listed_cons q p ps listed) [
-        | inl same ↦ or_left _ _ (subst (λ y. is_below x y ≡ true) same below)
-        | inr later ↦ or_right _ _ (below_some ps q x later below)
-      ]
+      | inl same ↦ or_left _ _ (subst (λ y. is_below x y ≡ true) same below)
+      | inr later ↦ or_right _ _ (below_some ps q x later below)
+    ]
 
     above_one : (ps : List Path) (q : Path) → list_any (is_below q) ps ≡ true → (x : Path) × (is_listed x ps ≡ true) × (is_above x q ≡ true)
     above_one [] q h = absurd (true≢false (sym h))
     above_one (p ∷ ps) q h = elim (or_cases _ _ h) [
-        | inl here ↦ (p, listed_first p p ps refl, here)
-        | inr later ↦ let w = above_one ps q later in (w.0, listed_more w.0 p ps w.1, w.2)
-      ]
+      | inl here ↦ (p, listed_first p p ps refl, here)
+      | inr later ↦ let w = above_one ps q later in (w.0, listed_more w.0 p ps w.1, w.2)
+    ]

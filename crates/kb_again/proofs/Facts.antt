@@ -9,7 +9,7 @@ use Rattle.kb_world.specs.View.{index_names}
 use Rattle.kb_world.specs.declared.child.Area.TheVariants.{Nothing, Names}
 use Rattle.kb_world.specs.declared.child.Request.{Request}
 use Rattle.kb_world.specs.declared.roots.Roots.{Roots}
-use Rattle.kb_changes.specs.Change.{root_path, staged_path}
+use Rattle.kb_changes.specs.Change.{staged_path}
 use Rattle.kb_changes.specs.Groups.{drops_in, wipes_in, first_drop_dirs, second_drop_dirs, dirs_in, runs_in}
 use Rattle.kb_changes.specs.Valid.{written_roots, new_intent_path, is_initrd}
 use Rattle.kb_changes.specs.declared.change.Change.{Change}

@@ -1,9 +1,9 @@
 -- The changes of an intent as one list.
-use Rattle.std.specs.Prelude.{◌≡◌, ◌≤◌, ℕ, List, [], ◌∷◌, ◌++◌, map, take}
+use Rattle.std.specs.Prelude.{List, ◌++◌, map}
 use Rattle.kb_world.specs.Tree.{Tree}
 use Rattle.kb_world.specs.Path.{Path}
 use Rattle.kb_again.proofs.Ends.{Move, drop_at, wipe_at, drop_dir_at, make_dir_at, move_at, in_turn}
-use Rattle.kb_again.proofs.Parts.{Groups, IsValid}
+use Rattle.kb_again.proofs.Parts.{Groups}
 
 -- what is done at one path, or from one path to another
 pub data Act : Type 0 where
@@ -29,4 +29,3 @@ put_of m = to_put m.0 m.1
 -- the groups in their order
 abbrev pub acts_of : Groups → List Act
 acts_of g = map to_drop g.drops ++ (map to_wipe g.wipes ++ (map to_drop_dir g.first ++ (map to_make g.dirs ++ (map put_of g.puts ++ map to_drop_dir g.second))))
-

@@ -1,15 +1,14 @@
 -- The journal stays as it is while the changes are done.
-use Rattle.std.proofs.Common.{◌≡◌, ◌⊎◌, inl, inr, Bool, true, false, not, cond, ◌&&◌, ◌||◌, List, [], ◌∷◌, ◌++◌, map, codes, refl, sym, ap, ◌∙◌, subst}
+use Rattle.std.proofs.Common.{◌≡◌, inl, inr, true, false, not, cond, ◌&&◌, ◌||◌, List, [], ◌∷◌, ◌++◌, map, codes, refl, sym, ap, ◌∙◌, subst}
 use Rattle.std.specs.Fmt.{decimal}
 use Rattle.std.specs.List.{AllByRecursion}
 use Rattle.std.proofs.lemmas.Bool.{cases_Bool, true≢false}
-use Rattle.kb_world.specs.Path.{Path, parent, child}
+use Rattle.kb_world.specs.Path.{Path, parent}
 use Rattle.kb_world.specs.Public.{intent_path, staging_path}
 use Rattle.kb_world.specs.Script.{Script}
 use Rattle.kb_world.specs.Tree.{Tree, node_at, is_dir, edited}
 use Rattle.kb_world.specs.View.{view_of}
 use Rattle.kb_world.specs.declared.child.Area.{Area}
-use Rattle.kb_world.specs.declared.child.Request.{Request}
 use Rattle.kb_world.specs.declared.roots.Roots.{Roots}
 use Rattle.kb_changes.specs.Change.{root_path}
 use Rattle.kb_changes.specs.Valid.{new_intent_path}
@@ -24,7 +23,7 @@ use Rattle.kb_again.proofs.MoveLaws.{move_cases}
 use Rattle.kb_again.proofs.PathLaws.{is_over, is_above, is_listed, over_itself, over_cases, above_over_above, listed_first, listed_more}
 use Rattle.kb_again.proofs.RootLaws.{at_0, above_child, child_above, inside, disjoint_below, not_at_root, is_root}
 use Rattle.kb_again.proofs.RunLaws.{area_dropped}
-use Rattle.kb_again.proofs.Steps.{Written, writes, effect_in, run_request, Step, act, run, do_step, do_steps, steps_of}
+use Rattle.kb_again.proofs.Steps.{Written, writes, effect_in, Step, act, run, do_step, do_steps, steps_of}
 use Rattle.kb_again.proofs.ValidLaws.{below_root, in_first_changed, in_dirs_changed, in_second_changed, target_changed, staged_under, move_from}
 use Rattle.kb_again.proofs.WriteLaws.{effect_other}
 
@@ -44,9 +43,9 @@ change_misses : (j : Path) (c : Act) (t : Tree) → MissesBy j c → node_at (do
 unfolding MissesBy
 change_misses j (to_drop p) t miss = elim (drop_each p t j) [ inl kept ↦ kept | inr gone ↦ absurd (miss gone.0) ]
 change_misses j (to_wipe p) t miss = elim ((wiped (p ∷ []) t).each j) [
-    | inl kept ↦ kept
-    | inr gone ↦ absurd (elim (cases_Bool (is_over p j)) [ inl is ↦ miss is | inr out ↦ true≢false (sym gone.0 ∙ ap (λ b. b || false) out) ])
-  ]
+  | inl kept ↦ kept
+  | inr gone ↦ absurd (elim (cases_Bool (is_over p j)) [ inl is ↦ miss is | inr out ↦ true≢false (sym gone.0 ∙ ap (λ b. b || false) out) ])
+]
 change_misses j (to_drop_dir p) t miss = elim (drop_dir_cases p t) [ inl takes ↦ takes.others j miss | inr leaves ↦ ap (λ v. node_at v j) leaves.same ]
 change_misses j (to_make p) t miss = elim (make_dir_cases p t) [ inl adds ↦ adds.others j miss | inr lacks ↦ ap (λ v. node_at v j) lacks.same ]
 change_misses j (to_put staged target) t miss = elim (move_cases (staged, target) t) [ inl moves ↦ moves.others j miss.0 miss.1 | inr stays ↦ ap (λ v. node_at v j) stays.same ]
@@ -54,17 +53,17 @@ change_misses j (to_put staged target) t miss = elim (move_cases (staged, target
 effects_miss : (j : Path) (a : Area) → ((q : Path) → reaches a q ≡ true → j ≡ q → ⊥) → (es : List Written) (t : Tree) → node_at (in_turn (effect_in a) es t) j ≡ node_at t j
 effects_miss j a miss [] t = refl
 effects_miss j a miss (e ∷ es) t = effects_miss j a miss es (effect_in a e t) ∙ elim (cases_Bool (reaches a e.0)) [
-    | inl is ↦ effect_other a e t j (miss e.0 is)
-    | inr out ↦ ap (λ b. node_at (cond ((b && not (is_dir e.1)) && (not (is_dir (node_at t e.0)) && is_dir (node_at t (parent e.0)))) (edited e.0 e.1 t) t) j) out
-  ]
+  | inl is ↦ effect_other a e t j (miss e.0 is)
+  | inr out ↦ ap (λ b. node_at (cond ((b && not (is_dir e.1)) && (not (is_dir (node_at t e.0)) && is_dir (node_at t (parent e.0)))) (edited e.0 e.1 t) t) j) out
+]
 
 step_misses : (j : Path) (f : Script) (r : Roots) (x : Step) (t : Tree) → Misses j x → node_at (do_step f r x t) j ≡ node_at t j
 unfolding Misses
 step_misses j f r (act c) t miss = change_misses j c t miss
 step_misses j f r (run c) t miss = elim (cases_Bool (is_dir (node_at t c.dir))) [
-    | inl dir ↦ ap (λ b. node_at (cond b (in_turn (effect_in c.area) (writes f c (view_of r c t)) t) t) j) dir ∙ effects_miss j c.area miss (writes f c (view_of r c t)) t
-    | inr other ↦ ap (λ b. node_at (cond b (in_turn (effect_in c.area) (writes f c (view_of r c t)) t) t) j) other
-  ]
+  | inl dir ↦ ap (λ b. node_at (cond b (in_turn (effect_in c.area) (writes f c (view_of r c t)) t) t) j) dir ∙ effects_miss j c.area miss (writes f c (view_of r c t)) t
+  | inr other ↦ ap (λ b. node_at (cond b (in_turn (effect_in c.area) (writes f c (view_of r c t)) t) t) j) other
+]
 
 steps_miss : (j : Path) (f : Script) (r : Roots) (front back : List Step) (t : Tree) → AllByRecursion (Misses j) (front ++ back) → node_at (do_steps f r front t) j ≡ node_at t j
 steps_miss j f r [] back t all = refl

@@ -1,5 +1,5 @@
 -- The open part of a tree: what stands at the paths that pass a test.
-use Rattle.std.specs.Prelude.{◌≡◌, ◌⊎◌, ℕ, Bool, true, false, List, is_some, Some, None}
+use Rattle.std.specs.Prelude.{◌≡◌, ◌⊎◌, Bool, true, false, List, is_some, Some, None}
 use Rattle.kb_world.specs.Tree.{node_at, Tree, is_dir}
 use Rattle.kb_again.proofs.PathLaws.{is_above, is_listed}
 use Rattle.kb_world.specs.Path.{parent, Path}

@@ -1,20 +1,19 @@
 -- What changes leave of the open part of a tree.
-use Rattle.std.proofs.Common.{◌≡◌, ◌⊎◌, inl, inr, ℕ, Bool, true, false, not, cond, ◌&&◌, ◌||◌, List, [], ◌∷◌, refl, sym, ap, ◌∙◌, subst, arith, Some, None, is_some}
+use Rattle.std.proofs.Common.{◌≡◌, ◌⊎◌, inl, inr, Bool, true, false, not, cond, ◌&&◌, List, [], ◌∷◌, refl, sym, ap, ◌∙◌, Some, None, is_some}
 use Rattle.std.specs.declared.option.Option.{Option}
-use Rattle.kb_world.specs.Tree.{node_at, with_node, without, Tree, is_dir, is_leaf, edited}
+use Rattle.kb_world.specs.Tree.{node_at, without, Tree, is_dir, is_leaf, edited}
 use Rattle.std.proofs.lemmas.Bool.{cases_Bool, true≢false, and_parts, and_from, or_cases, or_left, or_right, false_from_ne_true}
 use Rattle.kb_again.proofs.PathLaws.{none_above_root, above_up, is_over, is_above, is_listed, over_itself, over_parent, over_cases, over_over, above_parent, listed_first, listed_more, listed_cons}
 use Rattle.kb_world.specs.declared.tree.Node.{Node}
 use Rattle.kb_world.specs.Path.{parent, Path}
-use Rattle.kb_again.proofs.Standing.{Standing}
-use Rattle.kb_again.proofs.Ends.{Move, can_move, drop_at, wipe_at, drop_dir_at, make_dir_at, move_at, in_turn, is_under_one, IsMember, Disjoint, MovesApart}
+use Rattle.kb_again.proofs.Ends.{Move, can_move, drop_at, wipe_at, drop_dir_at, make_dir_at, move_at, in_turn, is_under_one, IsMember, MovesApart}
 use Rattle.kb_again.proofs.Parts.{Groups, dropped_tree, wiped_tree, cleared_tree, made_tree, put_tree, done, IsValid, IsPart, in_second}
-use Rattle.kb_again.proofs.Kept.{SameOn, SameDirs, IsWhole, IsHidden, HasStaged, IsSoftlyOn, OpenSame, OpenAgain, OpenAfter}
+use Rattle.kb_again.proofs.Kept.{SameOn, SameDirs, IsWhole, IsHidden, HasStaged, OpenSame, OpenAgain, OpenAfter}
 use Rattle.kb_again.proofs.EditLaws.{dir_is, dir_test, stands_some, some_stands, same_or_not, Empty, Filled}
 use Rattle.kb_again.proofs.GroupLaws.{dropped, wiped, drop_dir_cases, make_dir_cases}
-use Rattle.kb_again.proofs.MoveLaws.{dir_no_file, move_cases, moved, moved_dir, kept_apart, can_apart, turned, all_moved}
+use Rattle.kb_again.proofs.MoveLaws.{dir_no_file, move_cases, moved, moved_dir, kept_apart, can_apart, all_moved}
 use Rattle.kb_again.proofs.AgainLaws.{none_dir, climb}
-use Rattle.kb_again.proofs.PartLaws.{wiped_free, cleared_tree_free, made_tree_free, put_tree_free, first_cleared, dirs_made, second_cleared, done_once, free_dropped, nothing_else}
+use Rattle.kb_again.proofs.PartLaws.{wiped_free, put_tree_free, first_cleared, dirs_made, second_cleared, done_once, free_dropped, nothing_else}
 use Rattle.kb_world.specs.declared.tree.Node.TheVariants as node
 
 -- what stands, stands in a directory
@@ -28,18 +27,18 @@ pub stands_above : (t : Tree) → IsWhole t → (s r : Path) → is_above s r �
 stands_above t whole s = climb (λ r. is_above s r ≡ true → is_some (node_at t r) ≡ true → node_at t s ≡ Some node.Dir)
     (λ below _. absurd (none_above_root s below))
     (λ n ns up below stands.
-      let dir = whole (n ∷ ns) stands in
-      elim (over_cases s (parent (n ∷ ns)) (above_up s n ns below)) [
-        | inl same ↦ ap (node_at t) same ∙ dir
-        | inr further ↦ up further (some_dir dir)
-      ])
+    let dir = whole (n ∷ ns) stands in
+    elim (over_cases s (parent (n ∷ ns)) (above_up s n ns below)) [
+      | inl same ↦ ap (node_at t) same ∙ dir
+      | inr further ↦ up further (some_dir dir)
+    ])
 
 pub wiped_under : (ps : List Path) (q r : Path) → is_over q r ≡ true → is_under_one ps q ≡ true → is_under_one ps r ≡ true
 wiped_under [] q r under h = absurd (true≢false (sym h))
 wiped_under (p ∷ ps) q r under h = elim (or_cases _ _ h) [
-    | inl here ↦ or_left _ _ (over_over p q r here under)
-    | inr there ↦ or_right _ _ (wiped_under ps q r under there)
-  ]
+  | inl here ↦ or_left _ _ (over_over p q r here under)
+  | inr there ↦ or_right _ _ (wiped_under ps q r under there)
+]
 
 pub parent_under : (q : Path) → is_over (parent q) q ≡ true
 parent_under [] = refl
@@ -59,31 +58,31 @@ wipes_whole ps t whole q stands =
 
 pub drop_dir_whole : (p : Path) (t : Tree) → IsWhole t → IsWhole (drop_dir_at p t)
 drop_dir_whole p t whole q stands = elim (drop_dir_cases p t) [
-    | inr leaves ↦ ap (λ u. node_at u (parent q)) leaves.same ∙ whole q (ap (λ u. is_some (node_at u q)) (sym leaves.same) ∙ stands)
-    | inl takes ↦ elim (same_or_not q p) [
-        | inl same ↦ absurd (some_stands _ stands (ap (node_at (drop_dir_at p t)) same ∙ takes.gone))
-        | inr other ↦
-          let was : is_some (node_at t q) ≡ true = ap is_some (sym (takes.others q other)) ∙ stands in
-          elim (same_or_not (parent q) p) [
-            | inr other_up ↦ takes.others (parent q) other_up ∙ whole q was
-            | inl up ↦ elim (above_parent q) [
-                | inl root ↦ absurd (other (root ∙ sym (ap parent root) ∙ up))
-                | inr below ↦ absurd (some_stands _ was (takes.empty.none q (ap (λ x. is_above x q) (sym up) ∙ below)))
-              ]
+  | inr leaves ↦ ap (λ u. node_at u (parent q)) leaves.same ∙ whole q (ap (λ u. is_some (node_at u q)) (sym leaves.same) ∙ stands)
+  | inl takes ↦ elim (same_or_not q p) [
+    | inl same ↦ absurd (some_stands _ stands (ap (node_at (drop_dir_at p t)) same ∙ takes.gone))
+    | inr other ↦
+        let was : is_some (node_at t q) ≡ true = ap is_some (sym (takes.others q other)) ∙ stands in
+        elim (same_or_not (parent q) p) [
+          | inr other_up ↦ takes.others (parent q) other_up ∙ whole q was
+          | inl up ↦ elim (above_parent q) [
+            | inl root ↦ absurd (other (root ∙ sym (ap parent root) ∙ up))
+            | inr below ↦ absurd (some_stands _ was (takes.empty.none q (ap (λ x. is_above x q) (sym up) ∙ below)))
           ]
-      ]
+        ]
   ]
+]
 
 pub make_dir_whole : (p : Path) (t : Tree) → IsWhole t → IsWhole (make_dir_at p t)
 make_dir_whole p t whole q stands = elim (make_dir_cases p t) [
-    | inr lacks ↦ ap (λ u. node_at u (parent q)) lacks.same ∙ whole q (ap (λ u. is_some (node_at u q)) (sym lacks.same) ∙ stands)
-    | inl adds ↦ elim (same_or_not q p) [
-        | inl same ↦ ap (λ x. node_at (make_dir_at p t) (parent x)) same ∙ adds.others (parent p) (λ is_p. none_dir adds.was (ap (node_at t) (sym is_p) ∙ adds.above)) ∙ adds.above
-        | inr other ↦
-          let dir = whole q (ap is_some (sym (adds.others q other)) ∙ stands) in
-          elim (same_or_not (parent q) p) [ inl up ↦ ap (node_at (make_dir_at p t)) up ∙ adds.here | inr other_up ↦ adds.others (parent q) other_up ∙ dir ]
-      ]
+  | inr lacks ↦ ap (λ u. node_at u (parent q)) lacks.same ∙ whole q (ap (λ u. is_some (node_at u q)) (sym lacks.same) ∙ stands)
+  | inl adds ↦ elim (same_or_not q p) [
+    | inl same ↦ ap (λ x. node_at (make_dir_at p t) (parent x)) same ∙ adds.others (parent p) (λ is_p. none_dir adds.was (ap (node_at t) (sym is_p) ∙ adds.above)) ∙ adds.above
+    | inr other ↦
+        let dir = whole q (ap is_some (sym (adds.others q other)) ∙ stands) in
+        elim (same_or_not (parent q) p) [ inl up ↦ ap (node_at (make_dir_at p t)) up ∙ adds.here | inr other_up ↦ adds.others (parent q) other_up ∙ dir ]
   ]
+]
 
 pub move_whole : (m : Move) (t : Tree) → IsWhole t → IsWhole (move_at m t)
 move_whole m t whole q stands =
@@ -91,12 +90,12 @@ move_whole m t whole q stands =
     elim (move_cases m t) [
       | inr stays ↦ ap (λ u. node_at u (parent q)) stays.same ∙ whole q (ap (λ u. is_some (node_at u q)) (sym stays.same) ∙ stands)
       | inl moves ↦ elim (same_or_not q m.1) [
-          | inl same ↦ dir_is _ (dirs (parent q) ∙ ap (λ x. is_dir (node_at t (parent x))) same ∙ moves.above)
-          | inr no_target ↦ elim (same_or_not q m.0) [
-              | inl same ↦ absurd (some_stands _ stands (ap (node_at (move_at m t)) same ∙ moves.source (λ own. no_target (same ∙ own))))
-              | inr other ↦ dir_is _ (dirs (parent q) ∙ dir_test _ (whole q (ap is_some (sym (moves.others q other no_target)) ∙ stands)))
-            ]
+        | inl same ↦ dir_is _ (dirs (parent q) ∙ ap (λ x. is_dir (node_at t (parent x))) same ∙ moves.above)
+        | inr no_target ↦ elim (same_or_not q m.0) [
+          | inl same ↦ absurd (some_stands _ stands (ap (node_at (move_at m t)) same ∙ moves.source (λ own. no_target (same ∙ own))))
+          | inr other ↦ dir_is _ (dirs (parent q) ∙ dir_test _ (whole q (ap is_some (sym (moves.others q other no_target)) ∙ stands)))
         ]
+      ]
     ]
 
 pub turn_whole : {A : Type 0} (f : A → Tree → Tree) → ((x : A) (t : Tree) → IsWhole t → IsWhole (f x t)) → (xs : List A) (t : Tree) → IsWhole t → IsWhole (in_turn f xs t)
@@ -137,9 +136,9 @@ start_same g t u q same = wipes_same g.wipes _ _ q (drops_same g.drops t u q sam
 
 start_none : (g : Groups) (u : Tree) (q : Path) → node_at u q ≡ None → node_at (wiped_tree g u) q ≡ None
 start_none g u q none = elim ((wiped g.wipes (dropped_tree g u)).each q) [
-    | inr gone ↦ gone.1
-    | inl kept ↦ kept ∙ elim ((dropped g.drops u).each q) [ inl kept_too ↦ kept_too ∙ none | inr gone ↦ gone.2 ]
-  ]
+  | inr gone ↦ gone.1
+  | inl kept ↦ kept ∙ elim ((dropped g.drops u).each q) [ inl kept_too ↦ kept_too ∙ none | inr gone ↦ gone.2 ]
+]
 
 -- directories that are taken away
 abbrev IsBare : List Path → Tree → Type 0
@@ -147,9 +146,9 @@ IsBare ws t = (q : Path) → is_under_one ws q ≡ true → node_at t q ≡ None
 
 drop_dir_bare : (ws : List Path) (x : Path) (t : Tree) → IsBare ws t → IsBare ws (drop_dir_at x t)
 drop_dir_bare ws x t bare q h = elim (drop_dir_cases x t) [
-    | inr leaves ↦ ap (λ u. node_at u q) leaves.same ∙ bare q h
-    | inl takes ↦ elim (same_or_not q x) [ inl same ↦ ap (node_at (drop_dir_at x t)) same ∙ takes.gone | inr other ↦ takes.others q other ∙ bare q h ]
-  ]
+  | inr leaves ↦ ap (λ u. node_at u q) leaves.same ∙ bare q h
+  | inl takes ↦ elim (same_or_not q x) [ inl same ↦ ap (node_at (drop_dir_at x t)) same ∙ takes.gone | inr other ↦ takes.others q other ∙ bare q h ]
+]
 
 abbrev IsApartFrom : (Path → Bool) → List Path → Path → Type 0
 IsApartFrom p ws x = (r : Path) → p x ≡ true → is_above x r ≡ true → p r ≡ false → (is_under_one ws r ≡ true) ⊎ ((s : Path) × (is_above x s ≡ true) × (is_above s r ≡ true) × (p s ≡ true))
@@ -159,33 +158,33 @@ sym_on p t u same q is = sym (same q is)
 
 not_filled : (p : Path → Bool) (ws : List Path) (x : Path) (t u : Tree) → IsWhole u → IsBare ws u → SameOn p t u → IsApartFrom p ws x → p x ≡ true → Empty t x → Filled u x → ⊥
 not_filled p ws x t u whole bare same apart is e f = elim (cases_Bool (p f.path)) [
-    | inl open_at ↦ f.stands (sym (same f.path open_at) ∙ e.none f.path f.below)
-    | inr hidden ↦ elim (apart f.path is f.below hidden) [
-        | inl wipes ↦ f.stands (bare f.path wipes)
-        | inr s ↦ none_dir (e.none s.0 s.1) (same s.0 s.3 ∙ stands_above u whole s.0 f.path s.2 (stands_some _ f.stands))
-      ]
+  | inl open_at ↦ f.stands (sym (same f.path open_at) ∙ e.none f.path f.below)
+  | inr hidden ↦ elim (apart f.path is f.below hidden) [
+    | inl wipes ↦ f.stands (bare f.path wipes)
+    | inr s ↦ none_dir (e.none s.0 s.1) (same s.0 s.3 ∙ stands_above u whole s.0 f.path s.2 (stands_some _ f.stands))
   ]
+]
 
 drop_dir_same : (p : Path → Bool) (ws : List Path) (x : Path) (t u : Tree) → IsWhole t → IsWhole u → IsBare ws t → IsBare ws u → IsApartFrom p ws x → SameOn p t u → SameOn p (drop_dir_at x t) (drop_dir_at x u)
 drop_dir_same p ws x t u whole whole_u bare bare_u apart same q is = elim (drop_dir_cases x t) [
-    | inl takes ↦ elim (drop_dir_cases x u) [
-        | inl takes_too ↦ elim (same_or_not q x) [
-            | inl here ↦ ap (node_at (drop_dir_at x t)) here ∙ takes.gone ∙ sym (ap (node_at (drop_dir_at x u)) here ∙ takes_too.gone)
-            | inr other ↦ takes.others q other ∙ same q is ∙ sym (takes_too.others q other)
-          ]
-        | inr leaves ↦ elim (same_or_not q x) [
-            | inl here ↦ let open_x : p x ≡ true = ap p (sym here) ∙ is in absurd (not_filled p ws x t u whole_u bare_u same apart open_x takes.empty (leaves.filled (sym (same x open_x) ∙ takes.was)))
-            | inr other ↦ takes.others q other ∙ same q is ∙ sym (ap (λ v. node_at v q) leaves.same)
-          ]
-      ]
-    | inr leaves ↦ elim (drop_dir_cases x u) [
-        | inl takes ↦ elim (same_or_not q x) [
-            | inl here ↦ let open_x : p x ≡ true = ap p (sym here) ∙ is in absurd (not_filled p ws x u t whole bare (sym_on p t u same) apart open_x takes.empty (leaves.filled (same x open_x ∙ takes.was)))
-            | inr other ↦ ap (λ v. node_at v q) leaves.same ∙ same q is ∙ sym (takes.others q other)
-          ]
-        | inr leaves_too ↦ ap (λ v. node_at v q) leaves.same ∙ same q is ∙ sym (ap (λ v. node_at v q) leaves_too.same)
-      ]
+  | inl takes ↦ elim (drop_dir_cases x u) [
+    | inl takes_too ↦ elim (same_or_not q x) [
+      | inl here ↦ ap (node_at (drop_dir_at x t)) here ∙ takes.gone ∙ sym (ap (node_at (drop_dir_at x u)) here ∙ takes_too.gone)
+      | inr other ↦ takes.others q other ∙ same q is ∙ sym (takes_too.others q other)
+    ]
+    | inr leaves ↦ elim (same_or_not q x) [
+      | inl here ↦ let open_x : p x ≡ true = ap p (sym here) ∙ is in absurd (not_filled p ws x t u whole_u bare_u same apart open_x takes.empty (leaves.filled (sym (same x open_x) ∙ takes.was)))
+      | inr other ↦ takes.others q other ∙ same q is ∙ sym (ap (λ v. node_at v q) leaves.same)
+    ]
   ]
+  | inr leaves ↦ elim (drop_dir_cases x u) [
+    | inl takes ↦ elim (same_or_not q x) [
+      | inl here ↦ let open_x : p x ≡ true = ap p (sym here) ∙ is in absurd (not_filled p ws x u t whole bare (sym_on p t u same) apart open_x takes.empty (leaves.filled (same x open_x ∙ takes.was)))
+      | inr other ↦ ap (λ v. node_at v q) leaves.same ∙ same q is ∙ sym (takes.others q other)
+    ]
+    | inr leaves_too ↦ ap (λ v. node_at v q) leaves.same ∙ same q is ∙ sym (ap (λ v. node_at v q) leaves_too.same)
+  ]
+]
 
 clears_same : (p : Path → Bool) (ws xs : List Path) (t u : Tree) → IsWhole t → IsWhole u → IsBare ws t → IsBare ws u → ((x : Path) → is_listed x xs ≡ true → IsApartFrom p ws x) → SameOn p t u → SameOn p (in_turn drop_dir_at xs t) (in_turn drop_dir_at xs u)
 clears_same p ws [] t u whole whole_u bare bare_u apart same = same
@@ -228,24 +227,24 @@ module _ (p b : Path → Bool) (above : (q : Path) → p q ≡ true → (p (pare
 
   make_dir_same : (x : Path) (t u : Tree) → SameOn p t u → SameDirs b t u → SameOn p (make_dir_at x t) (make_dir_at x u)
   make_dir_same x t u same dirs q is = elim (make_dir_cases x t) [
-      | inl adds ↦ elim (make_dir_cases x u) [
-          | inl adds_too ↦ elim (same_or_not q x) [
-              | inl here ↦ ap (node_at (make_dir_at x t)) here ∙ adds.here ∙ sym (ap (node_at (make_dir_at x u)) here ∙ adds_too.here)
-              | inr other ↦ adds.others q other ∙ same q is ∙ sym (adds_too.others q other)
-            ]
-          | inr lacks ↦ elim (same_or_not q x) [
-              | inl here ↦ let open_x : p x ≡ true = ap p (sym here) ∙ is in absurd (lacks.cause (dir_is _ (sym (parent_dirs t u same dirs x open_x) ∙ dir_test _ adds.above)) (sym (same x open_x) ∙ adds.was))
-              | inr other ↦ adds.others q other ∙ same q is ∙ sym (ap (λ v. node_at v q) lacks.same)
-            ]
-        ]
-      | inr lacks ↦ elim (make_dir_cases x u) [
-          | inl adds ↦ elim (same_or_not q x) [
-              | inl here ↦ let open_x : p x ≡ true = ap p (sym here) ∙ is in absurd (lacks.cause (dir_is _ (parent_dirs t u same dirs x open_x ∙ dir_test _ adds.above)) (same x open_x ∙ adds.was))
-              | inr other ↦ ap (λ v. node_at v q) lacks.same ∙ same q is ∙ sym (adds.others q other)
-            ]
-          | inr lacks_too ↦ ap (λ v. node_at v q) lacks.same ∙ same q is ∙ sym (ap (λ v. node_at v q) lacks_too.same)
-        ]
+    | inl adds ↦ elim (make_dir_cases x u) [
+      | inl adds_too ↦ elim (same_or_not q x) [
+        | inl here ↦ ap (node_at (make_dir_at x t)) here ∙ adds.here ∙ sym (ap (node_at (make_dir_at x u)) here ∙ adds_too.here)
+        | inr other ↦ adds.others q other ∙ same q is ∙ sym (adds_too.others q other)
+      ]
+      | inr lacks ↦ elim (same_or_not q x) [
+        | inl here ↦ let open_x : p x ≡ true = ap p (sym here) ∙ is in absurd (lacks.cause (dir_is _ (sym (parent_dirs t u same dirs x open_x) ∙ dir_test _ adds.above)) (sym (same x open_x) ∙ adds.was))
+        | inr other ↦ adds.others q other ∙ same q is ∙ sym (ap (λ v. node_at v q) lacks.same)
+      ]
     ]
+    | inr lacks ↦ elim (make_dir_cases x u) [
+      | inl adds ↦ elim (same_or_not q x) [
+        | inl here ↦ let open_x : p x ≡ true = ap p (sym here) ∙ is in absurd (lacks.cause (dir_is _ (parent_dirs t u same dirs x open_x ∙ dir_test _ adds.above)) (same x open_x ∙ adds.was))
+        | inr other ↦ ap (λ v. node_at v q) lacks.same ∙ same q is ∙ sym (adds.others q other)
+      ]
+      | inr lacks_too ↦ ap (λ v. node_at v q) lacks.same ∙ same q is ∙ sym (ap (λ v. node_at v q) lacks_too.same)
+    ]
+  ]
 
   makes_same : (xs : List Path) (t u : Tree) → ((x : Path) → is_listed x xs ≡ true → b x ≡ true → ⊥) → SameOn p t u → SameDirs b t u → SameOn p (in_turn make_dir_at xs t) (in_turn make_dir_at xs u)
   makes_same [] t u spared same dirs = same
@@ -260,9 +259,9 @@ module _ (p b : Path → Bool) (above : (q : Path) → p q ≡ true → (p (pare
 
   cant_after : (m : Move) (t : Tree) → (m.0 ≡ m.1 → ⊥) → can_move (node_at (move_at m t)) m ≡ false
   cant_after m t own = elim (move_cases m t) [
-      | inl moves ↦ (λ i. (is_leaf (moves.source own i) && not (is_dir (node_at (move_at m t) m.1))) && is_dir (node_at (move_at m t) (parent m.1)))
-      | inr stays ↦ ap (λ v. can_move (node_at v) m) stays.same ∙ stays.cant
-    ]
+    | inl moves ↦ (λ i. (is_leaf (moves.source own i) && not (is_dir (node_at (move_at m t) m.1))) && is_dir (node_at (move_at m t) (parent m.1)))
+    | inr stays ↦ ap (λ v. can_move (node_at v) m) stays.same ∙ stays.cant
+  ]
 
   move_other : (m : Move) (t : Tree) (q : Path) → (q ≡ m.0 → ⊥) → (q ≡ m.1 → ⊥) → node_at (move_at m t) q ≡ node_at t q
   move_other m t q a b = elim (move_cases m t) [ inl moves ↦ moves.others q a b | inr stays ↦ ap (λ v. node_at v q) stays.same ]
@@ -276,51 +275,51 @@ module _ (p b : Path → Bool) (above : (q : Path) → p q ≡ true → (p (pare
       elim (same_or_not q m.1) [
         | inr other ↦ move_other m t q no_source other ∙ same q is ∙ sym (move_other m u q no_source other)
         | inl here ↦
-          let is_m : p m.1 ≡ true = ap p (sym here) ∙ is in
-          elim (staged is_m) [
-            | inr cant ↦ ap (λ v. node_at v q) (cant_stays m t cant.0) ∙ same q is ∙ sym (ap (λ v. node_at v q) (cant_stays m u cant.1))
-            | inl file ↦
-              let can = can_same m t u is_m file same dirs in
-              elim (move_cases m t) [
-                | inl moves ↦ elim (move_cases m u) [
-                    | inl moves_too ↦ ap (node_at (move_at m t)) here ∙ moves.target ∙ sym (ap (node_at (move_at m u)) here ∙ moves_too.target ∙ file)
-                    | inr stays ↦ absurd (true≢false (sym moves.can ∙ can ∙ stays.cant))
+            let is_m : p m.1 ≡ true = ap p (sym here) ∙ is in
+            elim (staged is_m) [
+              | inr cant ↦ ap (λ v. node_at v q) (cant_stays m t cant.0) ∙ same q is ∙ sym (ap (λ v. node_at v q) (cant_stays m u cant.1))
+              | inl file ↦
+                  let can = can_same m t u is_m file same dirs in
+                  elim (move_cases m t) [
+                    | inl moves ↦ elim (move_cases m u) [
+                      | inl moves_too ↦ ap (node_at (move_at m t)) here ∙ moves.target ∙ sym (ap (node_at (move_at m u)) here ∙ moves_too.target ∙ file)
+                      | inr stays ↦ absurd (true≢false (sym moves.can ∙ can ∙ stays.cant))
+                    ]
+                    | inr stays ↦ elim (move_cases m u) [
+                      | inl moves ↦ absurd (true≢false (sym moves.can ∙ sym can ∙ stays.cant))
+                      | inr stays_too ↦ ap (λ v. node_at v q) stays.same ∙ same q is ∙ sym (ap (λ v. node_at v q) stays_too.same)
+                    ]
                   ]
-                | inr stays ↦ elim (move_cases m u) [
-                    | inl moves ↦ absurd (true≢false (sym moves.can ∙ sym can ∙ stays.cant))
-                    | inr stays_too ↦ ap (λ v. node_at v q) stays.same ∙ same q is ∙ sym (ap (λ v. node_at v q) stays_too.same)
-                  ]
-              ]
-          ]
+            ]
       ]
 
   moves_same : (ms : List Move) (t u : Tree) → MovesApart ms → ((m : Move) → IsMember m ms → p m.0 ≡ true → ⊥) → AreStaged ms t u → SameOn p t u → SameDirs b t u → SameOn p (in_turn move_at ms t) (in_turn move_at ms u)
   moves_same [] t u apart hidden staged same dirs = same
   moves_same (m ∷ ms) t u apart hidden staged same dirs =
       moves_same ms (move_at m t) (move_at m u)
-        (record { own = λ n h. apart.own n (inr h); two = λ n k h i. apart.two n k (inr h) (inr i) })
-        (λ n h. hidden n (inr h))
-        (λ n h is. elim (apart.two n m (inr h) (inl refl)) [
-          | inl one ↦
+      (record { own = λ n h. apart.own n (inr h); two = λ n k h i. apart.two n k (inr h) (inr i) })
+      (λ n h. hidden n (inr h))
+      (λ n h is. elim (apart.two n m (inr h) (inl refl)) [
+        | inl one ↦
             let own : n.0 ≡ n.1 → ⊥ = apart.own n (inr h) in
             inr (ap (λ k. can_move (node_at (move_at k t)) n) (sym one) ∙ cant_after n t own, ap (λ k. can_move (node_at (move_at k u)) n) (sym one) ∙ cant_after n u own)
-          | inr two ↦ elim (staged n (inr h) is) [
-              | inl file ↦ inl ((kept_apart n m u two).0 ∙ file ∙ sym (kept_apart n m t two).0)
-              | inr cant ↦ inr (can_apart n m t two ∙ cant.0, can_apart n m u two ∙ cant.1)
-            ]
-        ])
-        (move_same m t u (hidden m (inl refl)) (staged m (inl refl)) same dirs)
-        (moves_dirs b (m ∷ []) t u dirs)
+        | inr two ↦ elim (staged n (inr h) is) [
+          | inl file ↦ inl ((kept_apart n m u two).0 ∙ file ∙ sym (kept_apart n m t two).0)
+          | inr cant ↦ inr (can_apart n m t two ∙ cant.0, can_apart n m u two ∙ cant.1)
+        ]
+      ])
+      (move_same m t u (hidden m (inl refl)) (staged m (inl refl)) same dirs)
+      (moves_dirs b (m ∷ []) t u dirs)
 
 -- a staged place, before the moves
 staged_kept : (g : Groups) (valid : IsValid g) (t : Tree) (m : Move) → IsMember m g.puts → node_at (made_tree g t) m.0 ≡ node_at (wiped_tree g t) m.0
 staged_kept g valid t m in_it = elim ((dirs_made g valid t).each m.0) [
-    | inr makes ↦ absurd (valid.staged_no_dir m in_it makes.listed)
-    | inl kept ↦ kept ∙ elim ((first_cleared g valid t).each m.0) [
-        | inl kept_too ↦ kept_too
-        | inr goes ↦ absurd (valid.staged_apart m in_it m.0 goes.listed (over_itself m.0))
-      ]
+  | inr makes ↦ absurd (valid.staged_no_dir m in_it makes.listed)
+  | inl kept ↦ kept ∙ elim ((first_cleared g valid t).each m.0) [
+    | inl kept_too ↦ kept_too
+    | inr goes ↦ absurd (valid.staged_apart m in_it m.0 goes.listed (over_itself m.0))
   ]
+]
 
 hard_same : (p b : Path → Bool) (g : Groups) (t u : Tree) → IsValid g → IsHidden p b g → IsWhole t → IsWhole u → SameOn p t u → SameDirs b t u → HasStaged p g t u → SameOn p (done g t) (done g u) × SameDirs b (done g t) (done g u)
 hard_same p b g t u valid hidden whole whole_u same dirs staged =
@@ -354,16 +353,17 @@ open_same p b g t u valid hidden whole whole_u soft dirs staged =
     let same : SameOn p v w = λ x open_x. elim (soft x open_x) [
       | inl kept ↦ drops_same g.drops t u x (sym kept)
       | inr changed ↦
-        nothing_else _ (elim (d.each x) [ inl stays ↦ ap is_dir stays ∙ changed.1 | inr gone ↦ ap is_dir gone.2 ]) (d.gone x changed.0)
-        ∙ sym (nothing_else _ (elim (e.each x) [ inl stays ↦ ap is_dir stays ∙ changed.2 | inr gone ↦ ap is_dir gone.2 ]) (e.gone x changed.0))
+          nothing_else _ (elim (d.each x) [ inl stays ↦ ap is_dir stays ∙ changed.1 | inr gone ↦ ap is_dir gone.2 ]) (d.gone x changed.0)
+          ∙ sym (nothing_else _ (elim (e.each x) [ inl stays ↦ ap is_dir stays ∙ changed.2 | inr gone ↦ ap is_dir gone.2 ]) (e.gone x changed.0))
     ] in
     let staged_too : HasStaged p g v w = λ m h open_m. elim (staged m h open_m) [
       | inl file ↦ inl (sym (drops_same g.drops t u m.0 (sym file)))
       | inr none ↦ inr (elim (e.each m.0) [ inl stays ↦ stays ∙ none.0 | inr gone ↦ gone.2 ], ap (λ x. can_move (node_at (made_from g x)) m) again ∙ none.1)
     ] in
-    let all = hard_same p b g v w valid hidden (drops_whole g.drops t whole) (drops_whole g.drops u whole_u) same (λ q is. drops_dirs g.drops t q ∙ dirs q is ∙ sym (drops_dirs g.drops u q)) staged_too in
-    ((λ q is. sym (ap (λ x. node_at (done_from g x) q) again) ∙ all.0 q is ∙ ap (λ x. node_at (done_from g x) q) again_u),
-     (λ q is. sym (ap (λ x. is_dir (node_at (done_from g x) q)) again) ∙ all.1 q is ∙ ap (λ x. is_dir (node_at (done_from g x) q)) again_u))
+    let all = hard_same p b g v w valid hidden (drops_whole g.drops t whole) (drops_whole g.drops u whole_u) same (λ q is. drops_dirs g.drops t q ∙ dirs q is ∙ sym (drops_dirs g.drops u q)) staged_too in (
+      (λ q is. sym (ap (λ x. node_at (done_from g x) q) again) ∙ all.0 q is ∙ ap (λ x. node_at (done_from g x) q) again_u),
+      (λ q is. sym (ap (λ x. is_dir (node_at (done_from g x) q)) again) ∙ all.1 q is ∙ ap (λ x. is_dir (node_at (done_from g x) q)) again_u),
+    )
 
 pub open_again : OpenAgain
 open_again p b g t v u valid hidden part whole whole_u same dirs staged =
@@ -381,9 +381,9 @@ fixed_cant g valid v fixed m in_it = false_from_ne_true _ (λ can.
     let was : is_leaf (node_at v m.0) ≡ true = elim (((wiped g.wipes (dropped_tree g v)).each m.0)) [
       | inr gone ↦ absurd (true≢false (sym inner.0 ∙ ap is_leaf (staged_kept g valid v m in_it ∙ gone.1)))
       | inl kept ↦ elim ((dropped g.drops v).each m.0) [
-          | inr gone ↦ absurd (true≢false (sym inner.0 ∙ ap is_leaf (staged_kept g valid v m in_it ∙ kept ∙ gone.2)))
-          | inl kept_too ↦ sym (ap is_leaf (staged_kept g valid v m in_it ∙ kept ∙ kept_too)) ∙ inner.0
-        ]
+        | inr gone ↦ absurd (true≢false (sym inner.0 ∙ ap is_leaf (staged_kept g valid v m in_it ∙ kept ∙ gone.2)))
+        | inl kept_too ↦ sym (ap is_leaf (staged_kept g valid v m in_it ∙ kept ∙ kept_too)) ∙ inner.0
+      ]
     ] in
     elim ((second_cleared g valid v).each m.0) [
       | inl same ↦ no_file (ap is_leaf (sym same) ∙ ap (λ w. is_leaf (node_at w m.0)) fixed ∙ was)

@@ -31,3 +31,4 @@ mod FactLaws
 mod ChangeLaws
 mod ReplyLaws
 mod Laws
+mod Witness

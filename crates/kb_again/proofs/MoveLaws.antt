@@ -1,11 +1,11 @@
 -- Staged files that are put in their places.
-use Rattle.std.proofs.Common.{◌≡◌, ◌⊎◌, inl, inr, ℕ, Bool, true, false, not, cond, ◌&&◌, ◌||◌, List, [], ◌∷◌, refl, sym, ap, ◌∙◌, subst, arith, Some, None, is_some}
+use Rattle.std.proofs.Common.{◌≡◌, ◌⊎◌, inl, inr, Bool, true, false, not, cond, ◌&&◌, List, [], ◌∷◌, refl, sym, ap, ◌∙◌, Some, None}
 use Rattle.std.specs.declared.option.Option.{Option}
-use Rattle.kb_world.specs.TreeLaws.{same_path, same_path-refl, same_path-false, same_tree, node_at-with_node, node_at-remove, same_path-true, paths_exact}
-use Rattle.kb_world.specs.Tree.{node_at, with_node, without, Tree, is_dir, is_leaf, edited}
-use Rattle.std.proofs.lemmas.Bool.{cases_Bool, true≢false, and_parts, and_from}
+use Rattle.kb_world.specs.TreeLaws.{same_path, same_path-refl, same_path-false, same_tree, node_at-with_node, node_at-remove, same_path-true}
+use Rattle.kb_world.specs.Tree.{node_at, without, Tree, is_dir, is_leaf, edited}
+use Rattle.std.proofs.lemmas.Bool.{cases_Bool, true≢false, and_parts}
 use Rattle.kb_world.specs.declared.tree.Node.{Node}
-use Rattle.kb_world.specs.Path.{path_cmp, parent, Path}
+use Rattle.kb_world.specs.Path.{parent, Path}
 use Rattle.kb_again.proofs.Standing.{Standing}
 use Rattle.kb_again.proofs.Ends.{Move, can_move, move_at, in_turn, IsMember, Disjoint, MovesApart, Moved}
 use Rattle.kb_again.proofs.EditLaws.{same_or_not}
@@ -22,14 +22,14 @@ get_found t m (Some n) q file = node_at-with_node (without m.0 t) m.1 n q ∙ ap
 get_move : (m : Move) (t : Tree) (q : Path) → node_at (move_at m t) q ≡ cond (can_move (node_at t) m) (got q m (node_at t)) (node_at t q)
 unfolding got
 get_move m t q = elim (cases_Bool (can_move (node_at t) m)) [
-    | inl can ↦
+  | inl can ↦
       ap (λ b. node_at (cond b (edited m.1 (node_at t m.0) (without m.0 t)) t) q) can
       ∙ get_found t m (node_at t m.0) q (and_parts _ _ (and_parts _ _ can).0).0
       ∙ sym (ap (λ b. cond b (cond (same_path q m.1) (node_at t m.0) (cond (same_path q m.0) None (node_at t q))) (node_at t q)) can)
-    | inr cant ↦
+  | inr cant ↦
       ap (λ b. node_at (cond b (edited m.1 (node_at t m.0) (without m.0 t)) t) q) cant
       ∙ sym (ap (λ b. cond b (cond (same_path q m.1) (node_at t m.0) (cond (same_path q m.0) None (node_at t q))) (node_at t q)) cant)
-  ]
+]
 
 pub dir_no_file : (o : Option Node) → is_leaf o ≡ true → is_dir o ≡ false
 dir_no_file None h = refl
@@ -57,8 +57,8 @@ not_is false h = refl
 pub move_cases : (m : Move) (t : Tree) → Moves m t (move_at m t) ⊎ Stays m t (move_at m t)
 unfolding got
 move_cases m t = elim (cases_Bool (can_move (node_at t) m)) [
-    | inr cant ↦ inr (record { same = ap (λ b. cond b (edited m.1 (node_at t m.0) (without m.0 t)) t) cant; cant = cant })
-    | inl can ↦
+  | inr cant ↦ inr (record { same = ap (λ b. cond b (edited m.1 (node_at t m.0) (without m.0 t)) t) cant; cant = cant })
+  | inl can ↦
       let parts = and_parts _ _ (and_parts _ _ can).0 in
       let is : (q : Path) → node_at (move_at m t) q ≡ got q m (node_at t) = λ q. get_move m t q ∙ ap (λ b. cond b (got q m (node_at t)) (node_at t q)) can in
       inl (record {
@@ -70,44 +70,44 @@ move_cases m t = elim (cases_Bool (can_move (node_at t) m)) [
         source = λ other. is m.0 ∙ (λ i. cond (same_path-false m.0 m.1 other i) (node_at t m.0) (cond (same_path-refl m.0 i) None (node_at t m.0)));
         others = λ q a b. is q ∙ (λ i. cond (same_path-false q m.1 b i) (node_at t m.0) (cond (same_path-false q m.0 a i) None (node_at t q)));
       })
-  ]
+]
 
 move_each : (m : Move) (t : Tree) (q : Path) → (node_at (move_at m t) q ≡ node_at t q) ⊎ ((is_dir (node_at t q) ≡ false) × (((m.0 ≡ q) × (node_at (move_at m t) q ≡ None)) ⊎ ((m.1 ≡ q) × (is_leaf (node_at (move_at m t) q) ≡ true))))
 move_each m t q = elim (move_cases m t) [
-    | inr stays ↦ inl (ap (λ u. node_at u q) stays.same)
-    | inl moves ↦ elim (same_or_not q m.1) [
-        | inl target ↦ inr (ap (λ x. is_dir (node_at t x)) target ∙ moves.no_dir, inr (sym target, ap (λ x. is_leaf (node_at (move_at m t) x)) target ∙ ap is_leaf moves.target ∙ moves.file))
-        | inr no_target ↦ elim (same_or_not q m.0) [
-            | inl source ↦ inr (ap (λ x. is_dir (node_at t x)) source ∙ dir_no_file _ moves.file, inl (sym source, ap (node_at (move_at m t)) source ∙ moves.source (λ same. no_target (source ∙ same))))
-            | inr no_source ↦ inl (moves.others q no_source no_target)
-          ]
-      ]
+  | inr stays ↦ inl (ap (λ u. node_at u q) stays.same)
+  | inl moves ↦ elim (same_or_not q m.1) [
+    | inl target ↦ inr (ap (λ x. is_dir (node_at t x)) target ∙ moves.no_dir, inr (sym target, ap (λ x. is_leaf (node_at (move_at m t) x)) target ∙ ap is_leaf moves.target ∙ moves.file))
+    | inr no_target ↦ elim (same_or_not q m.0) [
+      | inl source ↦ inr (ap (λ x. is_dir (node_at t x)) source ∙ dir_no_file _ moves.file, inl (sym source, ap (node_at (move_at m t)) source ∙ moves.source (λ same. no_target (source ∙ same))))
+      | inr no_source ↦ inl (moves.others q no_source no_target)
+    ]
   ]
+]
 
 pub moved_dir : (ms : List Move) (old new : Standing) → Moved ms old new → (q : Path) → is_dir (new q) ≡ is_dir (old q)
 moved_dir ms old new moved q = elim (moved.each q) [
-    | inl same ↦ ap is_dir same
-    | inr changed ↦ elim changed.1 [
-        | inl gone ↦ ap is_dir gone.3 ∙ sym changed.0
-        | inr put ↦ dir_no_file _ put.3 ∙ sym changed.0
-      ]
+  | inl same ↦ ap is_dir same
+  | inr changed ↦ elim changed.1 [
+    | inl gone ↦ ap is_dir gone.3 ∙ sym changed.0
+    | inr put ↦ dir_no_file _ put.3 ∙ sym changed.0
   ]
+]
 
 pub moved : (ms : List Move) (t : Tree) → Moved ms (node_at t) (node_at (in_turn move_at ms t))
 moved [] t = record { each = λ q. inl refl }
 moved (m ∷ ms) t =
     let rest = moved ms (move_at m t) in
     let first : (q : Path) → is_dir (node_at (move_at m t) q) ≡ is_dir (node_at t q) = λ q. elim (move_each m t q) [
-        | inl same ↦ ap is_dir same
-        | inr changed ↦ elim changed.1 [ inl gone ↦ ap is_dir gone.1 ∙ sym changed.0 | inr put ↦ dir_no_file _ put.1 ∙ sym changed.0 ]
-      ] in
+      | inl same ↦ ap is_dir same
+      | inr changed ↦ elim changed.1 [ inl gone ↦ ap is_dir gone.1 ∙ sym changed.0 | inr put ↦ dir_no_file _ put.1 ∙ sym changed.0 ]
+    ] in
     record {
       each = λ q. elim (rest.each q) [
         | inr changed ↦ inr (sym (first q) ∙ changed.0, elim changed.1 [ inl gone ↦ inl (gone.0, inr gone.1, gone.2, gone.3) | inr put ↦ inr (put.0, inr put.1, put.2, put.3) ])
         | inl same ↦ elim (move_each m t q) [
-            | inl kept ↦ inl (same ∙ kept)
-            | inr changed ↦ inr (changed.0, elim changed.1 [ inl gone ↦ inl (m, inl refl, gone.0, same ∙ gone.1) | inr put ↦ inr (m, inl refl, put.0, ap is_leaf same ∙ put.1) ])
-          ]
+          | inl kept ↦ inl (same ∙ kept)
+          | inr changed ↦ inr (changed.0, elim changed.1 [ inl gone ↦ inl (m, inl refl, gone.0, same ∙ gone.1) | inr put ↦ inr (m, inl refl, put.0, ap is_leaf same ∙ put.1) ])
+        ]
       ];
     }
 
@@ -125,9 +125,9 @@ one_place q p r other same = same_path-false q r (λ is. other (sym (same_path-t
 
 pub kept_apart : (m n : Move) (t : Tree) → Disjoint m n → (node_at (move_at n t) m.0 ≡ node_at t m.0) × (node_at (move_at n t) m.1 ≡ node_at t m.1)
 kept_apart m n t apart = elim (move_cases n t) [
-    | inr stays ↦ (ap (λ u. node_at u m.0) stays.same, ap (λ u. node_at u m.1) stays.same)
-    | inl moves ↦ (moves.others m.0 apart.sources apart.source_target, moves.others m.1 apart.target_source apart.targets)
-  ]
+  | inr stays ↦ (ap (λ u. node_at u m.0) stays.same, ap (λ u. node_at u m.1) stays.same)
+  | inl moves ↦ (moves.others m.0 apart.sources apart.source_target, moves.others m.1 apart.target_source apart.targets)
+]
 
 pub can_apart : (m n : Move) (t : Tree) → Disjoint m n → can_move (node_at (move_at n t)) m ≡ can_move (node_at t) m
 can_apart m n t apart =
@@ -143,7 +143,7 @@ turned m n a = record { sources = λ e. a.sources (sym e); source_target = λ e.
 
 get_both : (m n : Move) (t : Tree) (q : Path) → Disjoint m n → node_at (move_at m (move_at n t)) q ≡
     cond (can_move (node_at t) m) (cond (same_path q m.1) (node_at t m.0) (cond (same_path q m.0) None (cond (can_move (node_at t) n) (cond (same_path q n.1) (node_at t n.0) (cond (same_path q n.0) None (node_at t q))) (node_at t q))))
-      (cond (can_move (node_at t) n) (cond (same_path q n.1) (node_at t n.0) (cond (same_path q n.0) None (node_at t q))) (node_at t q))
+    (cond (can_move (node_at t) n) (cond (same_path q n.1) (node_at t n.0) (cond (same_path q n.0) None (node_at t q))) (node_at t q))
 unfolding got
 get_both m n t q apart = get_move m (move_at n t) q ∙ (λ i. cond (can_apart m n t apart i) (cond (same_path q m.1) ((kept_apart m n t apart).0 i) (cond (same_path q m.0) None (get_move n t q i))) (get_move n t q i))
 
@@ -158,12 +158,12 @@ none_file e f = true≢false (sym f ∙ ap is_leaf e)
 
 pub move_twice : (m : Move) (t : Tree) → (m.0 ≡ m.1 → ⊥) → move_at m (move_at m t) ≡ move_at m t
 move_twice m t other = elim (move_cases m (move_at m t)) [
-    | inr stays ↦ stays.same
-    | inl again ↦ elim (move_cases m t) [
-        | inr stays ↦ ap (move_at m) stays.same
-        | inl moves ↦ absurd (none_file (moves.source other) again.file)
-      ]
+  | inr stays ↦ stays.same
+  | inl again ↦ elim (move_cases m t) [
+    | inr stays ↦ ap (move_at m) stays.same
+    | inl moves ↦ absurd (none_file (moves.source other) again.file)
   ]
+]
 
 turn_last : (ns : List Move) (m : Move) → ((n : Move) → IsMember n ns → (m ≡ n) ⊎ Disjoint m n) → (t : Tree) → in_turn move_at ns (move_at m t) ≡ move_at m (in_turn move_at ns t)
 turn_last [] m two t = refl
@@ -209,6 +209,6 @@ pub record IsShrunk (p : Path → Bool) (t whole : Tree) : Type 0 where
 
 pub shrunk_cant : (p : Path → Bool) (t whole : Tree) (m : Move) → IsShrunk p t whole → p m.1 ≡ true → p (parent m.1) ≡ true → can_move (node_at whole) m ≡ false → can_move (node_at t) m ≡ false
 shrunk_cant p t whole m s target above cant = elim (s.less m.0) [
-    | inl same ↦ (λ i. (is_leaf (same i) && not (is_dir (s.same m.1 target i))) && is_dir (s.same (parent m.1) above i)) ∙ cant
-    | inr gone ↦ (λ i. (is_leaf (gone i) && not (is_dir (node_at t m.1))) && is_dir (node_at t (parent m.1)))
-  ]
+  | inl same ↦ (λ i. (is_leaf (same i) && not (is_dir (s.same m.1 target i))) && is_dir (s.same (parent m.1) above i)) ∙ cant
+  | inr gone ↦ (λ i. (is_leaf (gone i) && not (is_dir (node_at t m.1))) && is_dir (node_at t (parent m.1)))
+]

@@ -1,6 +1,6 @@
 -- Changes in order are the lists of their groups, one behind another.
-use Rattle.std.proofs.Common.{◌≡◌, ℕ, Bool, true, false, List, [], ◌∷◌, ◌++◌, map, refl, sym, ap, ◌∙◌}
-use Rattle.std.proofs.lemmas.Bool.{true≢false, and_parts}
+use Rattle.std.proofs.Common.{◌≡◌, true, false, List, [], ◌∷◌, ◌++◌, map, refl, sym, ap, ◌∙◌}
+use Rattle.std.proofs.lemmas.Bool.{true≢false}
 use Rattle.kb_world.specs.Path.{Path}
 use Rattle.kb_world.specs.declared.roots.Roots.{Roots}
 use Rattle.kb_changes.specs.Change.{staged_path}
@@ -8,8 +8,8 @@ use Rattle.kb_changes.specs.Groups.{drops_in, wipes_in, drop_dirs_in, first_drop
 use Rattle.kb_changes.specs.Valid.{are_in_order}
 use Rattle.kb_changes.specs.declared.change.Change.{Change}
 use Rattle.kb_changes.specs.declared.change.Change.TheVariants.{Dir, Put, Drop, DropDir, Wipe, Run}
-use Rattle.kb_again.proofs.Flat.{Act, to_drop, to_wipe, to_drop_dir, to_make, to_put, put_of, acts_of}
-use Rattle.kb_again.proofs.Facts.{StagedPut, Lists, puts_in, lists_of, move_of, groups_of}
+use Rattle.kb_again.proofs.Flat.{Act, to_drop, to_wipe, to_drop_dir, to_make, to_put, put_of}
+use Rattle.kb_again.proofs.Facts.{puts_in, lists_of, move_of}
 use Rattle.kb_again.proofs.Steps.{Step, act, run, step_of, steps_of}
 
 abbrev steps_in : Roots → List Change → List Step

@@ -1,21 +1,20 @@
 -- Doing all changes again from a tree in which a part of them is done.
-use Rattle.std.proofs.Common.{◌≡◌, ◌⊎◌, inl, inr, ℕ, Bool, true, false, not, cond, ◌&&◌, ◌||◌, List, [], ◌∷◌, refl, sym, ap, ◌∙◌, subst, arith, Some, None, is_some}
+use Rattle.std.proofs.Common.{◌≡◌, ◌⊎◌, inl, inr, Bool, true, false, not, List, refl, sym, ap, ◌∙◌, subst, Some, None}
 use Rattle.std.specs.declared.option.Option.{Option}
 use Rattle.kb_world.specs.Tree.{node_at, Tree, is_dir, is_leaf}
 use Rattle.std.proofs.lemmas.Bool.{cases_Bool, true≢false, and_parts, and_from}
-use Rattle.kb_again.proofs.PathLaws.{is_over, is_above, over_cases, over_parent, is_listed}
+use Rattle.kb_again.proofs.PathLaws.{is_over, over_cases, over_parent, is_listed}
 use Rattle.kb_world.specs.declared.tree.Node.{Node}
 use Rattle.kb_world.specs.TreeLaws.{same_tree}
 use Rattle.kb_world.specs.Path.{parent, Path}
-use Rattle.kb_again.proofs.Standing.{Standing, Between, Solid, Goes, Holds, Cleared, Makes, Made}
-use Rattle.kb_again.proofs.Ends.{Move, can_move, drop_at, wipe_at, drop_dir_at, make_dir_at, move_at, in_turn, is_under_one, Dropped, Wiped, IsMember, MovesApart, Moved}
-use Rattle.kb_again.proofs.Parts.{Groups, dropped_tree, wiped_tree, cleared_tree, made_tree, put_tree, done, IsValid, IsPart, DoneOnce}
+use Rattle.kb_again.proofs.Standing.{Standing, Between, Solid, Holds, Cleared, Made}
+use Rattle.kb_again.proofs.Ends.{Move, wipe_at, drop_dir_at, make_dir_at, move_at, in_turn, is_under_one, Dropped, Wiped, IsMember, Moved}
+use Rattle.kb_again.proofs.Parts.{Groups, dropped_tree, wiped_tree, cleared_tree, made_tree, put_tree, done, IsValid, DoneOnce}
 use Rattle.kb_again.proofs.Parts.{in_drops, in_wipes, in_first, in_dirs, in_puts, in_second, in_runs}
 use Rattle.kb_again.proofs.EditLaws.{dir_is, dir_test}
-
 use Rattle.kb_again.proofs.GroupLaws.{dropped, wiped, cleared, made}
 use Rattle.kb_again.proofs.MoveLaws.{moved, moved_dir, moves_before, all_moved, none_move}
-use Rattle.kb_again.proofs.AgainLaws.{none_dir, solid_kept, solid_same, cleared_again, made_again, IsReached, reached_again}
+use Rattle.kb_again.proofs.AgainLaws.{solid_kept, solid_same, cleared_again, IsReached, reached_again}
 use Rattle.kb_world.specs.declared.tree.Node.TheVariants as node
 
 not_true : {b : Bool} → (b ≡ true → ⊥) → b ≡ false
@@ -30,25 +29,25 @@ nothing_else (Some (node.Link text)) h k = absurd (k refl)
 -- a drop done before
 dropped_again : (ps : List Path) (old new mid end : Standing) → Dropped ps old new → Dropped ps mid end → Between old new mid → (q : Path) → end q ≡ new q
 dropped_again ps old new mid end first second between q = elim (first.each q) [
-    | inl same ↦
+  | inl same ↦
       let here : mid q ≡ new q = elim (between q) [ inl t ↦ t ∙ sym same | inr n ↦ n ] in
       elim (second.each q) [ inl kept ↦ kept ∙ here | inr gone ↦ absurd (first.gone q gone.0 (ap is_leaf (sym here) ∙ gone.1)) ]
-    | inr gone ↦ elim (second.each q) [
-        | inr now ↦ now.2 ∙ sym gone.2
-        | inl kept ↦ elim (between q) [
-            | inr n ↦ kept ∙ n
-            | inl t ↦ absurd (second.gone q gone.0 (ap is_leaf (kept ∙ t) ∙ gone.1))
-          ]
-      ]
+  | inr gone ↦ elim (second.each q) [
+    | inr now ↦ now.2 ∙ sym gone.2
+    | inl kept ↦ elim (between q) [
+      | inr n ↦ kept ∙ n
+      | inl t ↦ absurd (second.gone q gone.0 (ap is_leaf (kept ∙ t) ∙ gone.1))
+    ]
   ]
+]
 
 wiped_again : (ps : List Path) (old new mid end : Standing) → Wiped ps old new → Wiped ps mid end → Between old new mid → (q : Path) → end q ≡ new q
 wiped_again ps old new mid end first second between q = elim (first.each q) [
-    | inl same ↦
+  | inl same ↦
       let here : mid q ≡ new q = elim (between q) [ inl t ↦ t ∙ sym same | inr n ↦ n ] in
       elim (second.each q) [ inl kept ↦ kept ∙ here | inr gone ↦ gone.1 ∙ sym (first.gone q gone.0) ]
-    | inr gone ↦ second.gone q gone.0 ∙ sym gone.1
-  ]
+  | inr gone ↦ second.gone q gone.0 ∙ sym gone.1
+]
 
 -- no files to drop, nothing to wipe
 pub record IsFree (g : Groups) (look : Standing) : Type 0 where
@@ -91,16 +90,16 @@ module _ (g : Groups) (valid : IsValid g) where
     no_file = λ q listed file. elim (m.each q) [
       | inl same ↦ a.no_file q listed (ap is_leaf (sym same) ∙ file)
       | inr changed ↦ elim changed.1 [
-          | inl gone ↦ none_not_file gone.3 file
-          | inr put ↦ valid.no_drop put.0 (sub put.0 put.1) (subst (λ x. is_listed x g.drops ≡ true) (sym put.2) listed)
-        ]
+        | inl gone ↦ none_not_file gone.3 file
+        | inr put ↦ valid.no_drop put.0 (sub put.0 put.1) (subst (λ x. is_listed x g.drops ≡ true) (sym put.2) listed)
+      ]
     ];
     nothing = λ q listed. elim (m.each q) [
       | inl same ↦ same ∙ a.nothing q listed
       | inr changed ↦ elim changed.1 [
-          | inl gone ↦ gone.3
-          | inr put ↦ absurd (valid.no_wipe put.0 (sub put.0 put.1) (subst (λ x. is_under_one g.wipes x ≡ true) (sym put.2) listed))
-        ]
+        | inl gone ↦ gone.3
+        | inr put ↦ absurd (valid.no_wipe put.0 (sub put.0 put.1) (subst (λ x. is_under_one g.wipes x ≡ true) (sym put.2) listed))
+      ]
     ];
   }
 
@@ -142,12 +141,12 @@ module _ (g : Groups) (valid : IsValid g) where
     -- a directory that is there once all are made was made, or holds what doesn't go
     made_held : (q : Path) → is_listed q g.first ≡ true → node_at (made_tree g t) q ≡ Some node.Dir → ((is_listed q g.dirs ≡ true) × (node_at (made_tree g t) (parent q) ≡ Some node.Dir)) ⊎ ((r : Path) × (is_over q r ≡ true) × Solid g.first (node_at (wiped_tree g t)) r × (node_at (cleared_tree g t) r ≡ node_at (wiped_tree g t) r) × (node_at (made_tree g t) r ≡ node_at (wiped_tree g t) r))
     made_held q listed dir = elim (dirs_made.each q) [
-        | inr makes ↦ inl (makes.listed, makes.above)
-        | inl same ↦
+      | inr makes ↦ inl (makes.listed, makes.above)
+      | inl same ↦
           let w = first_cleared.full q listed (sym same ∙ dir) in
           let kept = solid_kept g.first _ _ w.path first_cleared w.solid in
           inr (w.path, w.under, w.solid, kept, elim (dirs_made.each w.path) [ inl still ↦ still ∙ kept | inr makes ↦ absurd (w.solid.stands (sym kept ∙ makes.was)) ])
-      ]
+    ]
 
     -- with some of the moves done
     moved_held : (some : List Move) → ((m : Move) → IsMember m some → IsMember m g.puts) → (look : Standing) → Moved some (node_at (made_tree g t)) look → (q : Path) → is_listed q g.first ≡ true → look q ≡ Some node.Dir → ((is_listed q g.dirs ≡ true) × (look (parent q) ≡ Some node.Dir)) ⊎ Holds g.first look q
@@ -155,26 +154,26 @@ module _ (g : Groups) (valid : IsValid g) where
         elim (made_held q listed (dir_is _ (sym (moved_dir some _ _ m q) ∙ dir_test _ dir))) [
           | inl made ↦ inl (made.0, dir_is _ (moved_dir some _ _ m (parent q) ∙ dir_test _ made.1))
           | inr w ↦ inr (record {
-              path = w.0;
-              under = w.1;
-              solid = elim (m.each w.0) [
-                | inl same ↦ solid_same g.first _ look w.0 (same ∙ w.4) w.2
-                | inr changed ↦ elim changed.1 [
-                    | inl gone ↦ absurd (valid.staged_apart gone.0 (sub gone.0 gone.1) q listed (ap (is_over q) gone.2 ∙ w.1))
-                    | inr put ↦ record { stands = λ none. none_not_file none put.3; stays = λ is_it in_it. dir_not_file is_it put.3 }
-                  ]
-              ];
-            })
+            path = w.0;
+            under = w.1;
+            solid = elim (m.each w.0) [
+              | inl same ↦ solid_same g.first _ look w.0 (same ∙ w.4) w.2
+              | inr changed ↦ elim changed.1 [
+                | inl gone ↦ absurd (valid.staged_apart gone.0 (sub gone.0 gone.1) q listed (ap (is_over q) gone.2 ∙ w.1))
+                | inr put ↦ record { stands = λ none. none_not_file none put.3; stays = λ is_it in_it. dir_not_file is_it put.3 }
+              ]
+            ];
+          })
         ]
 
     moved_full : (some : List Move) → ((m : Move) → IsMember m some → IsMember m g.puts) → (look : Standing) → Moved some (node_at (made_tree g t)) look → (q : Path) → is_listed q g.dirs ≡ true → look (parent q) ≡ Some node.Dir → look q ≡ None → ⊥
     moved_full some sub look m q listed above none = elim (m.each q) [
-        | inl same ↦ dirs_made.full q listed (dir_is _ (sym (moved_dir some _ _ m (parent q)) ∙ dir_test _ above)) (sym same ∙ none)
-        | inr changed ↦ elim changed.1 [
-            | inl gone ↦ valid.staged_no_dir gone.0 (sub gone.0 gone.1) (subst (λ x. is_listed x g.dirs ≡ true) (sym gone.2) listed)
-            | inr put ↦ none_not_file none put.3
-          ]
+      | inl same ↦ dirs_made.full q listed (dir_is _ (sym (moved_dir some _ _ m (parent q)) ∙ dir_test _ above)) (sym same ∙ none)
+      | inr changed ↦ elim changed.1 [
+        | inl gone ↦ valid.staged_no_dir gone.0 (sub gone.0 gone.1) (subst (λ x. is_listed x g.dirs ≡ true) (sym gone.2) listed)
+        | inr put ↦ none_not_file none put.3
       ]
+    ]
 
     again_dirs : Tree → Tree
     again_dirs u = in_turn make_dir_at g.dirs (in_turn drop_dir_at g.first u)
@@ -204,9 +203,9 @@ module _ (g : Groups) (valid : IsValid g) where
             | inl was ↦ elim (dirs_made.each q) [ inl same ↦ inl (inl (was ∙ sym same)) | inr makes ↦ inr (makes.listed, makes.made, was ∙ makes.was, makes.above) ]
           ];
           held = λ q listed dir. elim (made_held q listed (elim (between q) [
-              | inr now ↦ sym now ∙ dir
-              | inl was ↦ elim (dirs_made.each q) [ inl same ↦ same ∙ sym was ∙ dir | inr makes ↦ makes.made ]
-            ])) [
+            | inr now ↦ sym now ∙ dir
+            | inl was ↦ elim (dirs_made.each q) [ inl same ↦ same ∙ sym was ∙ dir | inr makes ↦ makes.made ]
+          ])) [
             | inl made ↦ inl made
             | inr w ↦ inr (record { path = w.0; under = w.1; solid = solid_same g.first _ _ w.0 (elim (between w.0) [ inl was ↦ was ∙ w.3 | inr now ↦ now ∙ w.4 ]) w.2 })
           ];
@@ -243,36 +242,36 @@ module _ (g : Groups) (valid : IsValid g) where
           held = λ q listed dir. elim (moved_held g.puts (λ k in_it. in_it) _ m q listed (between_dir (node_at u) between q dir)) [
             | inl made ↦ inl made
             | inr w ↦ inr (record {
-                path = w.path;
-                under = w.under;
-                solid = solid_same g.first _ _ w.path (elim (between w.path) [
-                  | inl was ↦ was
-                  | inr now ↦ elim (c.each w.path) [
-                      | inl same ↦ now ∙ same
-                      | inr goes ↦ absurd (elim (over_cases q w.path w.under) [
-                          | inl here ↦ w.solid.stays goes.was (subst (λ x. is_listed x g.first ≡ true) here listed)
-                          | inr below ↦ valid.second_not_below q w.path listed below goes.listed
-                        ])
-                    ]
-                ]) w.solid;
-              })
+              path = w.path;
+              under = w.under;
+              solid = solid_same g.first _ _ w.path (elim (between w.path) [
+                | inl was ↦ was
+                | inr now ↦ elim (c.each w.path) [
+                  | inl same ↦ now ∙ same
+                  | inr goes ↦ absurd (elim (over_cases q w.path w.under) [
+                    | inl here ↦ w.solid.stays goes.was (subst (λ x. is_listed x g.first ≡ true) here listed)
+                    | inr below ↦ valid.second_not_below q w.path listed below goes.listed
+                  ])
+                ]
+              ]) w.solid;
+            })
           ];
           full = moved_full g.puts (λ k in_it. in_it) _ m;
           ends = λ q. elim (c.each q) [ inl same ↦ inl same | inr goes ↦ inr (goes.was, goes.gone, goes.bare) ];
         }) in
         let still : in_turn move_at g.puts v ≡ v = none_move g.puts v (λ k in_it. not_true (λ can.
-          let parts = and_parts _ _ can in
-          let inner = and_parts _ _ parts.0 in
-          let file : is_leaf (node_at (put_tree g t) k.0) ≡ true = elim (reaches k.0) [
-            | inl was ↦ ap is_leaf (sym was) ∙ inner.0
-            | inr now ↦ elim (c.each k.0) [ inl same ↦ ap is_leaf (sym same ∙ sym now) ∙ inner.0 | inr goes ↦ absurd (none_not_file (now ∙ goes.gone) inner.0) ]
-          ] in
-          let no_dir : not (is_dir (node_at (put_tree g t) k.1)) ≡ true = elim (reaches k.1) [
-            | inl was ↦ ap (λ o. not (is_dir o)) (sym was) ∙ inner.1
-            | inr now ↦ elim (c.each k.1) [ inl same ↦ ap (λ o. not (is_dir o)) (sym same ∙ sym now) ∙ inner.1 | inr goes ↦ absurd (valid.no_second k in_it goes.listed) ]
-          ] in
-          let above = dir_test _ (between_dir (node_at v) reaches (parent k.1) (dir_is _ parts.1)) in
-          true≢false (sym (and_from _ _ (and_from _ _ file no_dir) above) ∙ all_moved g.puts valid.apart k in_it (made_tree g t)))) in
+        let parts = and_parts _ _ can in
+        let inner = and_parts _ _ parts.0 in
+        let file : is_leaf (node_at (put_tree g t) k.0) ≡ true = elim (reaches k.0) [
+          | inl was ↦ ap is_leaf (sym was) ∙ inner.0
+          | inr now ↦ elim (c.each k.0) [ inl same ↦ ap is_leaf (sym same ∙ sym now) ∙ inner.0 | inr goes ↦ absurd (none_not_file (now ∙ goes.gone) inner.0) ]
+        ] in
+        let no_dir : not (is_dir (node_at (put_tree g t) k.1)) ≡ true = elim (reaches k.1) [
+          | inl was ↦ ap (λ o. not (is_dir o)) (sym was) ∙ inner.1
+          | inr now ↦ elim (c.each k.1) [ inl same ↦ ap (λ o. not (is_dir o)) (sym same ∙ sym now) ∙ inner.1 | inr goes ↦ absurd (valid.no_second k in_it goes.listed) ]
+        ] in
+        let above = dir_test _ (between_dir (node_at v) reaches (parent k.1) (dir_is _ parts.1)) in
+        true≢false (sym (and_from _ _ (and_from _ _ file no_dir) above) ∙ all_moved g.puts valid.apart k in_it (made_tree g t)))) in
         from_third u (between_free g _ _ _ put_tree_free done_free between)
         ∙ ap (in_turn drop_dir_at g.second) still
         ∙ same_tree _ _ (cleared_again g.second (node_at (put_tree g t)) (node_at (done g t)) (node_at v) _ c (cleared g.second v valid.second_order) reaches)
@@ -303,8 +302,8 @@ done_once g t u valid (in_runs soft) =
     let same : dropped_tree g u ≡ done g t = same_tree _ _ (λ q. elim (soft q) [
       | inl same ↦ elim (d.each q) [ inl kept ↦ kept ∙ same | inr gone ↦ absurd (free.no_file q gone.0 (ap is_leaf (sym same) ∙ gone.1)) ]
       | inr open_at ↦
-        nothing_else _ (elim (d.each q) [ inl kept ↦ ap is_dir kept ∙ open_at.2 | inr gone ↦ ap is_dir gone.2 ]) (d.gone q open_at.0)
-        ∙ sym (nothing_else _ open_at.1 (free.no_file q open_at.0))
+          nothing_else _ (elim (d.each q) [ inl kept ↦ ap is_dir kept ∙ open_at.2 | inr gone ↦ ap is_dir gone.2 ]) (d.gone q open_at.0)
+          ∙ sym (nothing_else _ open_at.1 (free.no_file q open_at.0))
     ]) in
     ap (λ v. in_turn drop_dir_at g.second (in_turn move_at g.puts (in_turn make_dir_at g.dirs (in_turn drop_dir_at g.first (in_turn wipe_at g.wipes v)))))
     (same ∙ sym (free_dropped g (done g t) free.no_file))

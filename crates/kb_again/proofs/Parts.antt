@@ -1,5 +1,5 @@
 -- The changes of an intent in their groups, and trees in which a part of them is done.
-use Rattle.std.specs.Prelude.{◌≡◌, ◌⊎◌, ℕ, Bool, true, false, List, [], ◌∷◌, Some, None}
+use Rattle.std.specs.Prelude.{◌≡◌, ◌⊎◌, true, false, List, []}
 use Rattle.kb_world.specs.Tree.{node_at, Tree, is_dir}
 use Rattle.kb_again.proofs.PathLaws.{is_over, is_above, is_listed}
 use Rattle.kb_world.specs.Path.{Path}

@@ -69,24 +69,24 @@ above_from p q h k = and_from _ _ h (ap not k)
 
 pub over_cases : (p q : Path) → is_over p q ≡ true → (p ≡ q) ⊎ (is_above p q ≡ true)
 over_cases p q h = elim (cases_Bool (is_over q p)) [
-    | inl back ↦ inl (over_both p q h back)
-    | inr not_one ↦ inr (above_from p q h not_one)
-  ]
+  | inl back ↦ inl (over_both p q h back)
+  | inr not_one ↦ inr (above_from p q h not_one)
+]
 
 pub not_above_itself : (p : Path) → is_above p p ≡ true → ⊥
 not_above_itself p h = true≢false (sym (over_itself p) ∙ not_back p p h)
 
 pub over_above : (p q r : Path) → is_over p q ≡ true → is_above q r ≡ true → is_above p r ≡ true
 over_above p q r h k = elim (cases_Bool (is_over r p)) [
-    | inr not_one ↦ above_from p r (over_over p q r h (above_over q r k)) not_one
-    | inl back ↦ absurd (true≢false (sym (over_over r p q back h) ∙ not_back q r k))
-  ]
+  | inr not_one ↦ above_from p r (over_over p q r h (above_over q r k)) not_one
+  | inl back ↦ absurd (true≢false (sym (over_over r p q back h) ∙ not_back q r k))
+]
 
 pub above_over_above : (p q r : Path) → is_above p q ≡ true → is_over q r ≡ true → is_above p r ≡ true
 above_over_above p q r h k = elim (cases_Bool (is_over r p)) [
-    | inr not_one ↦ above_from p r (over_over p q r (above_over p q h) k) not_one
-    | inl back ↦ absurd (true≢false (sym (over_over q r p k back) ∙ not_back p q h))
-  ]
+  | inr not_one ↦ above_from p r (over_over p q r (above_over p q h) k) not_one
+  | inl back ↦ absurd (true≢false (sym (over_over q r p k back) ∙ not_back p q h))
+]
 
 -- the root is below nothing
 pub none_above_root : (s : Path) → is_above s [] ≡ true → ⊥

@@ -1,13 +1,12 @@
 -- Entries of directories, and the scratch trees of versions.
-use Rattle.std.proofs.Common.{◌≡◌, ℕ, Bool, true, false, cond, ◌&&◌, List, [], ◌∷◌, ◌++◌, length, drop, codes, Option, Some, None, refl, sym, ap, ◌∙◌, subst, append_assoc}
+use Rattle.std.proofs.Common.{◌≡◌, ℕ, Bool, true, false, cond, List, [], ◌∷◌, ◌++◌, length, drop, codes, Option, Some, None, refl, sym, ap, ◌∙◌, subst, append_assoc}
 use Rattle.std.specs.List.{starts_with}
 use Rattle.std.specs.Prelude.{nat_eq}
 use Rattle.std.proofs.lemmas.Bool.{true≢false}
 use Rattle.kb_world.specs.Path.{Path, child, is_under}
-use Rattle.kb_world.specs.StorePath.{key_of, is_key, is_ruled, names_of, path_of, store_path, is_in_scratch}
+use Rattle.kb_world.specs.StorePath.{key_of, is_key, path_of, store_path, is_in_scratch}
 use Rattle.kb_world.specs.Tree.{name_in, sole}
 use Rattle.kb_world.specs.declared.roots.Roots.{Roots}
-use Rattle.kb_world.specs.declared.job.Key.{Key}
 use Rattle.kb_world.specs.declared.store_path.StorePath.{StorePath}
 use Rattle.kb_world.specs.declared.store_path.StorePath.TheVariants.{SourceLink, InScratch, Targets, InBox, KernelLink, InChest}
 use Rattle.kb_world.proofs.PathLaws.{under-append, under-split, drop-front}

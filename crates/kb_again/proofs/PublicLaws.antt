@@ -1,6 +1,6 @@
 -- Steps from the front, and public trees.
-use Rattle.std.proofs.Common.{◌≡◌, ◌⊎◌, inl, inr, ℕ, ◌+◌, Bool, true, false, not, cond, ◌&&◌, ◌||◌, List, [], ◌∷◌, ◌++◌, map, length, nat_eq, refl, sym, ap, ◌∙◌, subst, Option, Some, None, eq-eqb}
-use Rattle.std.proofs.lemmas.Bool.{cases_Bool, true≢false, and_parts, and_from, and_cases, or_left}
+use Rattle.std.proofs.Common.{◌≡◌, ◌⊎◌, inl, inr, ◌+◌, Bool, true, false, not, cond, ◌&&◌, List, [], ◌∷◌, ◌++◌, map, length, nat_eq, refl, sym, ap, ◌∙◌, subst, Option, None, eq-eqb}
+use Rattle.std.proofs.lemmas.Bool.{cases_Bool, and_from, and_cases, or_left}
 use Rattle.kb_world.specs.Path.{Path, is_under}
 use Rattle.kb_world.specs.Public.{is_public, is_loose, public_tree}
 use Rattle.kb_world.specs.Script.{Script}
@@ -13,13 +13,12 @@ use Rattle.kb_world.proofs.PathLaws.{under-append}
 use Rattle.kb_world.proofs.PublicLaws.{node_at-public_tree}
 use Rattle.kb_changes.specs.Valid.{is_initrd, written_roots}
 use Rattle.kb_again.proofs.EditLaws.{dir_is}
-use Rattle.kb_again.proofs.Ends.{in_turn, is_under_one, IsMember}
+use Rattle.kb_again.proofs.Ends.{in_turn, is_under_one}
 use Rattle.kb_again.proofs.Facts.{AreRoots, Lists, groups_of, is_open, is_beside, is_steady, IsValidUnder}
 use Rattle.kb_again.proofs.Flat.{Act, to_drop, to_wipe, to_drop_dir, to_make, to_put, do_act, do_acts, acts_of}
 use Rattle.kb_again.proofs.FrontLaws.{in_turn-append, all_done, front_is_part}
 use Rattle.kb_again.proofs.Kept.{SameOn, SameDirs, IsWhole}
 use Rattle.kb_again.proofs.KeptLaws.{drops_whole, wipes_whole, drop_dir_whole, make_dir_whole, move_whole, turn_whole}
-use Rattle.kb_again.proofs.Parts.{done}
 use Rattle.kb_again.proofs.PathLaws.{and_false}
 use Rattle.kb_again.proofs.PlaceLaws.{initrd_child}
 use Rattle.kb_again.proofs.RootLaws.{length_child}
@@ -70,13 +69,13 @@ front_left f r s front back t roots valid whole e =
     let cs = acts_of (groups_of r s) in
     elim (split_at_end front back (map act cs) (map run s.runs) e) [
       | inl more ↦
-        let w = map_split act front more.0 cs more.1 in
-        let is : do_steps f r front t ≡ do_acts w.0 t = ap (λ xs. do_steps f r xs t) w.3 ∙ turn_map act (do_step f r) w.0 t in
-        subst (IsBehind f r s t) (sym is) (among_groups (do_acts w.0 t) (front_is_part (groups_of r s) w.0 w.1 t (groups_valid r s roots valid) w.2) (turn_whole do_act change_whole w.0 t whole) (λ q open_q. inl refl) (λ q is. refl) (λ c h. refl))
+          let w = map_split act front more.0 cs more.1 in
+          let is : do_steps f r front t ≡ do_acts w.0 t = ap (λ xs. do_steps f r xs t) w.3 ∙ turn_map act (do_step f r) w.0 t in
+          subst (IsBehind f r s t) (sym is) (among_groups (do_acts w.0 t) (front_is_part (groups_of r s) w.0 w.1 t (groups_valid r s roots valid) w.2) (turn_whole do_act change_whole w.0 t whole) (λ q open_q. inl refl) (λ q is. refl) (λ c h. refl))
       | inr later ↦
-        let w = map_split run later.0 back s.runs later.2 in
-        let is : do_steps f r front t ≡ after_runs f r s w.0 t = ap (λ xs. do_steps f r xs t) (later.1 ∙ ap (λ l. map act cs ++ l) w.3) ∙ steps_all f r s w.0 t in
-        subst (IsBehind f r s t) (sym is) (among_runs w.0 w.1 w.2 (λ q open_q. inl refl) (λ q is. refl) (λ c h. inl refl))
+          let w = map_split run later.0 back s.runs later.2 in
+          let is : do_steps f r front t ≡ after_runs f r s w.0 t = ap (λ xs. do_steps f r xs t) (later.1 ∙ ap (λ l. map act cs ++ l) w.3) ∙ steps_all f r s w.0 t in
+          subst (IsBehind f r s t) (sym is) (among_runs w.0 w.1 w.2 (λ q open_q. inl refl) (λ q is. refl) (λ c h. inl refl))
     ]
 
 -- ---- public trees
@@ -104,9 +103,9 @@ public_same r t u same dirs = same_tree _ _ (λ q.
     let written = is_under_one (written_roots r) q in
     let beyond : (v : Tree) → written ≡ false → node_at (public_tree r v) q ≡ None = λ v out. hidden_there r v q (ap (λ b. (b && is_open r q) && not (is_loose r q (node_at v q))) out) in
     let none : (v : Tree) → is_open r q ≡ false → node_at (public_tree r v) q ≡ None = λ v out.
-      hidden_there r v q (ap (λ b. (written && b) && not (is_loose r q (node_at v q))) out ∙ no_second written (not (is_loose r q (node_at v q)))) in
+    hidden_there r v q (ap (λ b. (written && b) && not (is_loose r q (node_at v q))) out ∙ no_second written (not (is_loose r q (node_at v q)))) in
     let loose : (v : Tree) → is_loose r q (node_at v q) ≡ true → node_at (public_tree r v) q ≡ None = λ v is.
-      hidden_there r v q (ap (λ b. (written && is_open r q) && not b) is ∙ and_false (written && is_open r q)) in
+    hidden_there r v q (ap (λ b. (written && is_open r q) && not b) is ∙ and_false (written && is_open r q)) in
     elim (cases_Bool (is_steady r q)) [
       | inl is ↦ shown_alike r t u q (same q is)
       | inr out ↦ elim (and_cases written (is_open r q && not (is_initrd r q)) out) [
@@ -114,15 +113,15 @@ public_same r t u same dirs = same_tree _ _ (λ q.
         | inr inner ↦ elim (and_cases (is_open r q) (not (is_initrd r q)) inner) [
           | inl private_one ↦ none t private_one ∙ sym (none u private_one)
           | inr beside ↦
-            let is = not_false _ beside in
-            let alike = dirs q (or_left _ _ is) in
-            elim (cases_Bool (is_dir (node_at t q))) [
-              | inl dir ↦ shown_alike r t u q (dir_is _ dir ∙ sym (dir_is _ (sym alike ∙ dir)))
-              | inr file ↦ loose t (initrd_loose r q (node_at t q) is file) ∙ sym (loose u (initrd_loose r q (node_at u q) is (sym alike ∙ file)))
-            ]
-          ]
+              let is = not_false _ beside in
+              let alike = dirs q (or_left _ _ is) in
+              elim (cases_Bool (is_dir (node_at t q))) [
+                | inl dir ↦ shown_alike r t u q (dir_is _ dir ∙ sym (dir_is _ (sym alike ∙ dir)))
+                | inr file ↦ loose t (initrd_loose r q (node_at t q) is file) ∙ sym (loose u (initrd_loose r q (node_at u q) is (sym alike ∙ file)))
+              ]
         ]
-      ])
+      ]
+    ])
 
 pub public_left : (f : Script) (r : Roots) (s : Lists) (t u : Tree) → AreRoots r → IsValidUnder r s → IsWhole t → IsWhole u → IsBehind f r s t u
     → public_tree r (do_steps f r (steps_of r s) u) ≡ public_tree r (do_steps f r (steps_of r s) t)

@@ -1,21 +1,20 @@
 -- What the changes' children are asked and answer is what the runs behind the groups are.
-use Rattle.std.proofs.Common.{◌≡◌, Bool, true, false, cond, List, [], ◌∷◌, ◌++◌, map, refl, sym, ap, ◌∙◌}
-use Rattle.kb_world.specs.Script.{Script, answer, answer_in}
+use Rattle.std.proofs.Common.{◌≡◌, Bool, true, false, cond, List, [], ◌∷◌, ◌++◌, map, refl, ap, ◌∙◌}
+use Rattle.kb_world.specs.Script.{Script, answer_in}
 use Rattle.kb_world.specs.Tree.{Tree, node_at, is_dir}
-use Rattle.kb_world.specs.View.{view_of}
 use Rattle.kb_world.specs.declared.child.Reply.{Reply}
 use Rattle.kb_world.specs.declared.child.Request.{Request}
 use Rattle.kb_world.specs.declared.roots.Roots.{Roots}
-use Rattle.kb_changes.specs.Change.{do_change, request_at, requests_of, replies_of}
+use Rattle.kb_changes.specs.Change.{do_change, requests_of, replies_of}
 use Rattle.kb_changes.specs.Valid.{is_valid}
 use Rattle.kb_changes.specs.declared.change.Change.{Change}
 use Rattle.kb_changes.specs.declared.change.Change.TheVariants.{Dir, Put, Drop, DropDir, Wipe, Run}
 use Rattle.kb_again.proofs.ChangeLaws.{change_same, steps_are}
-use Rattle.kb_again.proofs.Facts.{Lists, lists_of, groups_of}
+use Rattle.kb_again.proofs.Facts.{lists_of, groups_of}
 use Rattle.kb_again.proofs.Flat.{Act, do_act, do_acts, acts_of}
 use Rattle.kb_again.proofs.FrontLaws.{all_done}
 use Rattle.kb_again.proofs.Parts.{done}
-use Rattle.kb_again.proofs.Steps.{Step, act, run, step_of, do_step, steps_of, run_request, run_replies, runs_made}
+use Rattle.kb_again.proofs.Steps.{Step, act, run, step_of, run_request, run_replies, runs_made}
 
 abbrev asked : Request → Tree → List Request
 asked c t = cond (is_dir (node_at t c.dir)) (c ∷ []) []

@@ -1,5 +1,5 @@
 -- What is soft once the areas of the runs are settled.
-use Rattle.std.proofs.Common.{◌≡◌, ◌⊎◌, inl, inr, ℕ, Bool, true, false, not, cond, ◌&&◌, ◌||◌, List, [], ◌∷◌, ◌++◌, map, codes, refl, sym, ap, ◌∙◌, subst}
+use Rattle.std.proofs.Common.{◌≡◌, inl, inr, ℕ, Bool, true, false, not, cond, List, [], ◌∷◌, ◌++◌, codes, refl, sym, ap, ◌∙◌, subst}
 use Rattle.std.specs.Prelude.{bytes_eq, filter}
 use Rattle.std.specs.List.{list_any, list_all, AllByRecursion}
 use Rattle.std.proofs.lemmas.List.{append-nil, append_assoc}
@@ -19,7 +19,7 @@ use Rattle.kb_again.specs.Sparing.{reaches, is_list_of_names, counts, IsSparing,
 use Rattle.kb_again.proofs.Ends.{is_under_one, IsMember}
 use Rattle.kb_again.proofs.Facts.{all_roots, AreRoots, untouched, staging_paths, is_open, Lists, targets, IsValidUnder}
 use Rattle.kb_again.proofs.FrontLaws.{listed_left}
-use Rattle.kb_again.proofs.PathLaws.{is_over, is_above, is_listed, over_over, over_cases, above_over, not_so, bytes_itself, listed_cons, listed_first, listed_more}
+use Rattle.kb_again.proofs.PathLaws.{is_over, is_above, over_over, over_cases, above_over, not_so, bytes_itself, listed_cons, listed_first, listed_more}
 use Rattle.kb_again.proofs.PlaceLaws.{entry_name, build_parts}
 use Rattle.kb_again.proofs.RootLaws.{above_child, child_above, same_front, same_last, inside, inside_some, not_open, open_from, disjoint_below, is_root, private_entry, dkms_modules, modules_boot}
 use Rattle.kb_again.proofs.RunLaws.{named, area_dropped}
@@ -79,16 +79,16 @@ module _ (r : Roots) (s : Lists) (roots : AreRoots r) (valid : IsValidUnder r s)
       let in_modules : is_above r.modules d ≡ true = subst (λ y. is_above r.modules y ≡ true) (sym d_is) (child_above r.modules x.kernel) in
       open_from r (child d m) (λ priv. elim (or_cases _ _ priv) [
         | inl head ↦
-          let w = inside_some (private_places r) (child d m) head in
-          let f = private_entry r w.0 w.1 in
-          elim (over_cases w.0 (child d m) w.2) [
-            | inl same ↦ disjoint_below (all_roots r) roots.disjoint r.modules f.0 (is_root r root_name.Modules) f.2 (subst (λ y. is_above r.modules y ≡ true) (same_front d f.0 m f.1 (sym same ∙ f.3)) in_modules)
-            | inr below ↦ not_open r (child d n) (or_left _ _ (inside (private_places r) w.0 (child d n) w.1 (over_over w.0 d (child d n) (above_child w.0 d m below) (above_over d (child d n) (child_above d n))))) open_at
-          ]
+            let w = inside_some (private_places r) (child d m) head in
+            let f = private_entry r w.0 w.1 in
+            elim (over_cases w.0 (child d m) w.2) [
+              | inl same ↦ disjoint_below (all_roots r) roots.disjoint r.modules f.0 (is_root r root_name.Modules) f.2 (subst (λ y. is_above r.modules y ≡ true) (same_front d f.0 m f.1 (sym same ∙ f.3)) in_modules)
+              | inr below ↦ not_open r (child d n) (or_left _ _ (inside (private_places r) w.0 (child d n) w.1 (over_over w.0 d (child d n) (above_child w.0 d m below) (above_over d (child d n) (child_above d n))))) open_at
+            ]
         | inr build ↦
-          let w = build_parts r (child d m) build in
-          not_in_both r roots r.dkms r.modules (is_root r root_name.Dkms) (is_root r root_name.Modules) (dkms_modules r roots) (child d m) (build_in_dkms r (child d m) w.0 w.1 w.3)
-          (over_over r.modules d (child d m) (above_over r.modules d in_modules) (above_over d (child d m) (child_above d m)))
+            let w = build_parts r (child d m) build in
+            not_in_both r roots r.dkms r.modules (is_root r root_name.Dkms) (is_root r root_name.Modules) (dkms_modules r roots) (child d m) (build_in_dkms r (child d m) w.0 w.1 w.3)
+            (over_over r.modules d (child d m) (above_over r.modules d in_modules) (above_over d (child d m) (child_above d m)))
       ])
 
   list_parts : (a : Area) (q : Path) → is_list_of_names a ≡ true → reaches a q ≡ true → (d : Path) × (ns : List (List ℕ)) × (n : List ℕ) × (a ≡ Names d ns) × (q ≡ child d n)
@@ -100,28 +100,28 @@ module _ (r : Roots) (s : Lists) (roots : AreRoots r) (valid : IsValidUnder r s)
   settles_list : (d : Path) (ns : List (List ℕ)) (n : List ℕ) → IsFit r s.runs (Names d ns) → (c : Request) → IsMember c s.runs → reaches c.area (child d n) ≡ true
       → is_under_one (written_roots r) (child d n) ≡ true → is_open r (child d n) ≡ true → is_settled_by c.area (Names d ns) ≡ true
   settles_list d ns n fit c h held written open_at = elim (valid.runs c h) [
-      | inl none ↦ absurd (true≢false (sym held ∙ ap (λ a. reaches a (child d n)) none))
-      | inr index ↦
+    | inl none ↦ absurd (true≢false (sym held ∙ ap (λ a. reaches a (child d n)) none))
+    | inr index ↦
         let x = run_index r s roots valid c h (child d n) held in
         let w = named (child r.modules index.0) index_names (child d n) (ap (λ a. reaches a (child d n)) (sym index.1.area) ∙ held) in
         let d_is : d ≡ child r.modules index.0 = same_front d (child r.modules index.0) n w.0 w.2 in
         ap (λ a. is_settled_by a (Names d ns)) index.1.area
         ∙ and_from _ _ (ap (λ x. same_path x d) (sym d_is) ∙ same_path-refl d) (all_named (λ m. list_any (bytes_eq m) index_names) ns (λ m member.
-          let m_held : reaches (Names d ns) (child d m) ≡ true = held_name d m ns member in
-          let m_open = beside_open d n m x open_at in
-          let in_modules : is_over r.modules (child d m) ≡ true = over_over r.modules d (child d m) (subst (λ y. is_over r.modules y ≡ true) (sym d_is) (above_over r.modules (child r.modules index.0) (child_above r.modules index.0))) (above_over d (child d m) (child_above d m)) in
-          let m_written : is_under_one (written_roots r) (child d m) ≡ true = inside (written_roots r) r.modules (child d m) (listed_more r.modules r.dkms (r.src ∷ r.modules ∷ r.boot ∷ []) (listed_more r.modules r.src (r.modules ∷ r.boot ∷ []) (listed_first r.modules r.modules (r.boot ∷ []) refl))) in_modules in
-          let no_initrd : is_initrd r (child d m) ≡ false = false_from_ne_true _ (λ is. not_in_both r roots r.modules r.boot (is_root r root_name.Modules) (is_root r root_name.Boot) (modules_boot r roots) (child d m) in_modules (initrd_in_boot r (child d m) is)) in
-          let run = fit_index r s roots valid (Names d ns) fit (child d m) m_held (counted r s roots valid (Names d ns) (child d m) m_written m_open (inr no_initrd)) in
-          elim (valid.runs run.0 run.1) [
-            | inl none ↦ absurd (true≢false (sym run.2 ∙ ap (λ a. reaches a (child d m)) none))
-            | inr other ↦
+        let m_held : reaches (Names d ns) (child d m) ≡ true = held_name d m ns member in
+        let m_open = beside_open d n m x open_at in
+        let in_modules : is_over r.modules (child d m) ≡ true = over_over r.modules d (child d m) (subst (λ y. is_over r.modules y ≡ true) (sym d_is) (above_over r.modules (child r.modules index.0) (child_above r.modules index.0))) (above_over d (child d m) (child_above d m)) in
+        let m_written : is_under_one (written_roots r) (child d m) ≡ true = inside (written_roots r) r.modules (child d m) (listed_more r.modules r.dkms (r.src ∷ r.modules ∷ r.boot ∷ []) (listed_more r.modules r.src (r.modules ∷ r.boot ∷ []) (listed_first r.modules r.modules (r.boot ∷ []) refl))) in_modules in
+        let no_initrd : is_initrd r (child d m) ≡ false = false_from_ne_true _ (λ is. not_in_both r roots r.modules r.boot (is_root r root_name.Modules) (is_root r root_name.Boot) (modules_boot r roots) (child d m) in_modules (initrd_in_boot r (child d m) is)) in
+        let run = fit_index r s roots valid (Names d ns) fit (child d m) m_held (counted r s roots valid (Names d ns) (child d m) m_written m_open (inr no_initrd)) in
+        elim (valid.runs run.0 run.1) [
+          | inl none ↦ absurd (true≢false (sym run.2 ∙ ap (λ a. reaches a (child d m)) none))
+          | inr other ↦
               let v = named (child r.modules other.0) index_names (child d m) (ap (λ a. reaches a (child d m)) (sym other.1.area) ∙ run.2) in
               let same_dir : d ≡ child r.modules other.0 = same_front d (child r.modules other.0) m v.0 v.2 in
               let same_name : m ≡ v.0 = same_last d m v.0 (v.2 ∙ ap (λ p. child p v.0) (sym same_dir)) in
               in_names m index_names (subst (λ k. IsMember k index_names) (sym same_name) v.1)
-          ]))
-    ]
+        ]))
+  ]
 
   spares_nothing : (a : Area) → IsUnsettled (IsFit r s.runs) s.runs a → IsSparing r [] a
   spares_nothing a u = record {
@@ -134,9 +134,9 @@ module _ (r : Roots) (s : Lists) (roots : AreRoots r) (valid : IsValidUnder r s)
     where
       by_itself : (c : Request) → IsMember c s.runs → is_settled_by c.area c.area ≡ true
       by_itself c h = elim (valid.runs c h) [
-          | inl none ↦ subst (λ a. is_settled_by a a ≡ true) (sym none) refl
-          | inr index ↦ subst (λ a. is_settled_by a a ≡ true) (sym index.1.area) (and_from _ _ (same_path-refl (child r.modules index.0)) (all_named (λ m. list_any (bytes_eq m) index_names) index_names (λ m h. in_names m index_names h)))
-        ]
+        | inl none ↦ subst (λ a. is_settled_by a a ≡ true) (sym none) refl
+        | inr index ↦ subst (λ a. is_settled_by a a ≡ true) (sym index.1.area) (and_from _ _ (same_path-refl (child r.modules index.0)) (all_named (λ m. list_any (bytes_eq m) index_names) index_names (λ m h. in_names m index_names h)))
+      ]
 
       own_settled : (c : Request) → IsMember c s.runs → is_settled_by c.area a ≡ true → ⊥
       own_settled c h is = true≢false (sym is ∙ u.apart c h)
@@ -148,14 +148,14 @@ module _ (r : Roots) (s : Lists) (roots : AreRoots r) (valid : IsValidUnder r s)
           let run = fit_index r s roots valid a u.fits q held counting in
           elim (cases_Bool (is_list_of_names a)) [
             | inr other ↦
-              let x = run_index r s roots valid run.0 run.1 q run.2 in
-              let entry = child q (codes "x") in
-              let below = above_over q entry (child_above q (codes "x")) in
-              let deeper_run = fit_index r s roots valid a u.fits entry (in_under a q entry other held below) (counted r s roots valid a entry (written_more r s roots valid q entry parts.0 below) (entry_open r s roots valid q (codes "x") x inner.0) (inl other)) in
-              no_deeper r s roots valid q (codes "x") x (run_index r s roots valid deeper_run.0 deeper_run.1 entry deeper_run.2)
+                let x = run_index r s roots valid run.0 run.1 q run.2 in
+                let entry = child q (codes "x") in
+                let below = above_over q entry (child_above q (codes "x")) in
+                let deeper_run = fit_index r s roots valid a u.fits entry (in_under a q entry other held below) (counted r s roots valid a entry (written_more r s roots valid q entry parts.0 below) (entry_open r s roots valid q (codes "x") x inner.0) (inl other)) in
+                no_deeper r s roots valid q (codes "x") x (run_index r s roots valid deeper_run.0 deeper_run.1 entry deeper_run.2)
             | inl list ↦
-              let w = list_parts a q list held in
-              own_settled run.0 run.1 (ap (is_settled_by run.0.area) w.3 ∙ settles_list w.0 w.1 w.2 (subst (IsFit r s.runs) w.3 u.fits) run.0 run.1 (ap (reaches run.0.area) (sym w.4) ∙ run.2) (ap (is_under_one (written_roots r)) (sym w.4) ∙ parts.0) (ap (is_open r) (sym w.4) ∙ inner.0))
+                let w = list_parts a q list held in
+                own_settled run.0 run.1 (ap (is_settled_by run.0.area) w.3 ∙ settles_list w.0 w.1 w.2 (subst (IsFit r s.runs) w.3 u.fits) run.0 run.1 (ap (reaches run.0.area) (sym w.4) ∙ run.2) (ap (is_under_one (written_roots r)) (sym w.4) ∙ parts.0) (ap (is_open r) (sym w.4) ∙ inner.0))
           ]
 
 pub all_of : (P Q : Area → Type 0) → ((a : Area) → P a → Q a) → (soft : List Area) → AllByRecursion P soft → AllByRecursion Q soft
@@ -186,6 +186,6 @@ any_run q (d ∷ cs) c (inr later) is = or_right _ _ (any_run q cs c later is)
 pub own_spare : (r : Roots) (s : Lists) → AreRoots r → IsValidUnder r s → (c : Request) → IsMember c s.runs → IsSparing r (run_areas s.runs) c.area
 own_spare r s roots valid c h = record {
   kept_out = λ q held. false_from_ne_true _ (λ out.
-    valid.not_inside q (listed_left q s.drops (s.wipes ++ (s.first ++ (s.dirs ++ (targets s ++ s.second)))) (area_dropped r s roots valid c h q held)) (kept_out_untouched r q out));
+      valid.not_inside q (listed_left q s.drops (s.wipes ++ (s.first ++ (s.dirs ++ (targets s ++ s.second)))) (area_dropped r s roots valid c h q held)) (kept_out_untouched r q out));
   public = λ q held counted. any_run q s.runs c h held;
 }

@@ -1,7 +1,7 @@
 -- What sparing soft areas leave.
-use Rattle.std.proofs.Common.{◌≡◌, ◌⊎◌, inl, inr, ℕ, ◌+◌, Bool, true, false, not, ◌&&◌, ◌||◌, List, [], ◌∷◌, map, codes, nat_eq, length, Option, Some, None, refl, sym, ap, ◌∙◌, subst, arith, length-append}
+use Rattle.std.proofs.Common.{◌≡◌, ◌⊎◌, inl, inr, ℕ, ◌+◌, Bool, true, false, not, ◌&&◌, ◌||◌, List, [], ◌∷◌, codes, nat_eq, length, Option, refl, sym, ap, ◌∙◌, subst, arith, length-append}
 use Rattle.std.specs.List.{list_any, AllByRecursion, starts_with}
-use Rattle.std.proofs.lemmas.Bool.{cases_Bool, true≢false, and_parts, and_from, or_cases, or_left, or_right}
+use Rattle.std.proofs.lemmas.Bool.{cases_Bool, true≢false, and_parts, and_from, or_cases}
 use Rattle.kb_world.specs.Area.{lets_differ}
 use Rattle.kb_world.specs.Path.{Path, child}
 use Rattle.kb_world.specs.Public.{intent_path, staging_path, private_places}
@@ -15,14 +15,14 @@ use Rattle.kb_world.specs.declared.tree.Node.{Node}
 use Rattle.kb_changes.specs.Change.{root_path}
 use Rattle.kb_changes.specs.Valid.{written_roots, is_initrd, is_kept_out, kept_out_paths, new_intent_path}
 use Rattle.kb_changes.specs.declared.change.RootName.TheVariants as root_name
-use Rattle.kb_again.specs.Sparing.{reaches, is_list_of_names, counts, IsSparing}
+use Rattle.kb_again.specs.Sparing.{reaches, is_list_of_names, counts}
 use Rattle.kb_again.proofs.Ends.{is_under_one, IsMember}
 use Rattle.kb_again.proofs.Facts.{all_roots, AreRoots, untouched, staging_paths, build_at, is_open, is_steady, is_beside, StagedPut, staged_at, Lists, changed_paths, IsValidUnder}
 use Rattle.kb_again.proofs.FrontLaws.{listed_left}
 use Rattle.kb_again.proofs.KeptLaws.{wiped_under}
 use Rattle.kb_again.proofs.PathLaws.{is_over, is_above, is_listed, over_over, over_itself, over_cases, above_over, above_over_above, not_back, not_so, listed_first, listed_more}
 use Rattle.kb_again.proofs.PlaceLaws.{initrd_name, initrd_child, build_parts}
-use Rattle.kb_again.proofs.RootLaws.{at_0, at_3, above_child, child_above, same_last, over_or_above, inside, inside_some, not_open, open_from, disjoint_below, is_root, private_entry, written_is_root, no_private, dkms_boot, src_boot, modules_boot, dkms_modules, is_staging}
+use Rattle.kb_again.proofs.RootLaws.{at_0, above_child, child_above, same_last, over_or_above, inside, inside_some, open_from, disjoint_below, is_root, private_entry, written_is_root, no_private, dkms_boot, src_boot, modules_boot, dkms_modules, is_staging}
 use Rattle.kb_again.proofs.RunLaws.{named, area_dropped}
 use Rattle.kb_again.proofs.Soft.{IsLeftIn, run_areas, IsFit, IsSoftBehind}
 use Rattle.kb_again.proofs.ValidLaws.{not_staged, staged_under}
@@ -56,37 +56,37 @@ pub record Lets (P : Area → Type 0) (q : Path) (was left : Option Node) : Type
 some_area : (P : Area → Type 0) (soft : List Area) (q : Path) (was left : Option Node) → AllByRecursion P soft → list_any (λ a. lets_differ a q was left) soft ≡ true → Lets P q was left
 some_area P [] q was left all h = absurd (true≢false (sym h))
 some_area P (a ∷ soft) q was left all h = elim (cases_Bool (lets_differ a q was left)) [
-    | inl is ↦ record { area = a; fits = all.0; lets = is }
-    | inr isnt ↦ some_area P soft q was left all.1 (sym (ap (λ b. b || list_any (λ a. lets_differ a q was left) soft) isnt) ∙ h)
-  ]
+  | inl is ↦ record { area = a; fits = all.0; lets = is }
+  | inr isnt ↦ some_area P soft q was left all.1 (sym (ap (λ b. b || list_any (λ a. lets_differ a q was left) soft) isnt) ∙ h)
+]
 
 some_run : (q : Path) (cs : List Request) → list_any (λ other. reaches other q) (run_areas cs) ≡ true → (c : Request) × IsMember c cs × (reaches c.area q ≡ true)
 some_run q [] h = absurd (true≢false (sym h))
 some_run q (c ∷ cs) h = elim (or_cases _ _ h) [
-    | inl here ↦ (c, inl refl, here)
-    | inr later ↦ let w = some_run q cs later in (w.0, inr w.1, w.2)
-  ]
+  | inl here ↦ (c, inl refl, here)
+  | inr later ↦ let w = some_run q cs later in (w.0, inr w.1, w.2)
+]
 
 -- a root that is written is open
 root_open : (r : Roots) → AreRoots r → (x : Path) → is_listed x (all_roots r) ≡ true → is_open r x ≡ true
 root_open r roots x is = open_from r x (λ priv. elim (or_cases _ _ priv) [
-    | inl head ↦
+  | inl head ↦
       let w = inside_some (private_places r) x head in
       let f = private_entry r w.0 w.1 in
       disjoint_below (all_roots r) roots.disjoint f.0 x f.2 is (above_over_above f.0 w.0 x (subst (λ h. is_above f.0 h ≡ true) (sym f.3) (child_above f.0 f.1)) w.2)
-    | inr build ↦
+  | inr build ↦
       let w = build_parts r x build in
       let one = child r.dkms w.0 in
       disjoint_below (all_roots r) roots.disjoint r.dkms x (is_root r root_name.Dkms) is
       (above_over_above r.dkms one x (child_above r.dkms w.0) (over_over one (build_at r w.0 w.1) x (over_over one (child one w.1) (build_at r w.0 w.1) (above_over one (child one w.1) (child_above one w.1)) (above_over (child one w.1) (build_at r w.0 w.1) (child_above (child one w.1) (codes "build")))) w.3))
-  ])
+])
 
 -- nothing is at or under two roots
 pub not_in_both : (r : Roots) → AreRoots r → (a b : Path) → is_listed a (all_roots r) ≡ true → is_listed b (all_roots r) ≡ true → (is_over a b ≡ true → ⊥) → (x : Path) → is_over a x ≡ true → is_over b x ≡ true → ⊥
 not_in_both r roots a b ha hb apart x ua ub = elim (over_or_above a b x ua ub) [
-    | inl under ↦ apart under
-    | inr below ↦ disjoint_below (all_roots r) roots.disjoint b a hb ha below
-  ]
+  | inl under ↦ apart under
+  | inr below ↦ disjoint_below (all_roots r) roots.disjoint b a hb ha below
+]
 
 -- a build directory is below the root of dkms
 pub build_in_dkms : (r : Roots) (x : Path) (m v : List ℕ) → is_over (build_at r m v) x ≡ true → is_over r.dkms x ≡ true
@@ -109,9 +109,9 @@ initrd_in_boot r q is = let w = initrd_child r q is in subst (λ y. is_over r.bo
 
 pub initrd_open : (r : Roots) → AreRoots r → (q : Path) → is_initrd r q ≡ true → is_open r q ≡ true
 initrd_open r roots q is = open_from r q (λ priv. elim (or_cases _ _ priv) [
-    | inl head ↦ by_head head
-    | inr build ↦ let w = build_parts r q build in not_in_both r roots r.dkms r.boot (is_root r root_name.Dkms) (is_root r root_name.Boot) (dkms_boot r roots) q (build_in_dkms r q w.0 w.1 w.3) boot_in
-  ])
+  | inl head ↦ by_head head
+  | inr build ↦ let w = build_parts r q build in not_in_both r roots r.dkms r.boot (is_root r root_name.Dkms) (is_root r root_name.Boot) (dkms_boot r roots) q (build_in_dkms r q w.0 w.1 w.3) boot_in
+])
   where
     boot_in : is_over r.boot q ≡ true
     boot_in = initrd_in_boot r q is
@@ -124,27 +124,27 @@ initrd_open r roots q is = open_from r q (λ priv. elim (or_cases _ _ priv) [
 
     by_head : is_under_one (private_places r) q ≡ true → ⊥
     by_head head = elim (or_cases _ _ head) [
-        | inl intent ↦ in_dkms (up r.dkms (codes ".intent") intent)
-        | inr h1 ↦ elim (or_cases _ _ h1) [
-          | inl new ↦ in_dkms (up r.dkms (codes ".intent.new") new)
-          | inr h2 ↦ elim (or_cases _ _ h2) [
-            | inl d ↦ in_dkms (up r.dkms (codes ".kb-staged") d)
-            | inr h3 ↦ elim (or_cases _ _ h3) [
-              | inl k ↦ not_in_both r roots r.src r.boot (is_root r root_name.Src) (is_root r root_name.Boot) (src_boot r roots) q (up r.src (codes ".kb-staged") k) boot_in
-              | inr h4 ↦ elim (or_cases _ _ h4) [
-                | inl l ↦ not_in_both r roots r.modules r.boot (is_root r root_name.Modules) (is_root r root_name.Boot) (modules_boot r roots) q (up r.modules (codes ".kb-staged") l) boot_in
-                | inr h5 ↦ elim (or_cases _ _ h5) [
-                  | inl b ↦ initrd_not_under r q (codes ".kb-staged") refl is b
-                  | inr h6 ↦ elim (or_cases _ _ h6) [
-                    | inl plugins ↦ initrd_not_under r q (codes ".kb-plugins") refl is plugins
-                    | inr none ↦ true≢false (sym none)
-                  ]
+      | inl intent ↦ in_dkms (up r.dkms (codes ".intent") intent)
+      | inr h1 ↦ elim (or_cases _ _ h1) [
+        | inl new ↦ in_dkms (up r.dkms (codes ".intent.new") new)
+        | inr h2 ↦ elim (or_cases _ _ h2) [
+          | inl d ↦ in_dkms (up r.dkms (codes ".kb-staged") d)
+          | inr h3 ↦ elim (or_cases _ _ h3) [
+            | inl k ↦ not_in_both r roots r.src r.boot (is_root r root_name.Src) (is_root r root_name.Boot) (src_boot r roots) q (up r.src (codes ".kb-staged") k) boot_in
+            | inr h4 ↦ elim (or_cases _ _ h4) [
+              | inl l ↦ not_in_both r roots r.modules r.boot (is_root r root_name.Modules) (is_root r root_name.Boot) (modules_boot r roots) q (up r.modules (codes ".kb-staged") l) boot_in
+              | inr h5 ↦ elim (or_cases _ _ h5) [
+                | inl b ↦ initrd_not_under r q (codes ".kb-staged") refl is b
+                | inr h6 ↦ elim (or_cases _ _ h6) [
+                  | inl plugins ↦ initrd_not_under r q (codes ".kb-plugins") refl is plugins
+                  | inr none ↦ true≢false (sym none)
                 ]
               ]
             ]
           ]
         ]
       ]
+    ]
 
 module _ (r : Roots) (s : Lists) (roots : AreRoots r) (valid : IsValidUnder r s) where
   -- what an area of a run holds is an index file's place, in a directory of the root of modules
@@ -155,17 +155,17 @@ module _ (r : Roots) (s : Lists) (roots : AreRoots r) (valid : IsValidUnder r s)
 
   pub run_index : (c : Request) → IsMember c s.runs → (q : Path) → reaches c.area q ≡ true → IsIndex q
   run_index c h q is = elim (valid.runs c h) [
-      | inl none ↦ absurd (true≢false (sym is ∙ ap (λ a. reaches a q) none))
-      | inr index ↦
+    | inl none ↦ absurd (true≢false (sym is ∙ ap (λ a. reaches a q) none))
+    | inr index ↦
         let w = named (child r.modules index.0) index_names q (ap (λ a. reaches a q) (sym index.1.area) ∙ is) in
         record { kernel = index.0; name = w.0; is = w.2 }
-    ]
+  ]
 
   run_list : (c : Request) → IsMember c s.runs → (q : Path) → reaches c.area q ≡ true → is_list_of_names c.area ≡ true
   run_list c h q is = elim (valid.runs c h) [
-      | inl none ↦ absurd (true≢false (sym is ∙ ap (λ a. reaches a q) none))
-      | inr index ↦ ap is_list_of_names index.1.area
-    ]
+    | inl none ↦ absurd (true≢false (sym is ∙ ap (λ a. reaches a q) none))
+    | inr index ↦ ap is_list_of_names index.1.area
+  ]
 
   index_below : (q : Path) → IsIndex q → is_above r.modules q ≡ true
   index_below q x = subst (λ y. is_above r.modules y ≡ true) (sym x.is) (above_over_above r.modules (child r.modules x.kernel) (child (child r.modules x.kernel) x.name) (child_above r.modules x.kernel) (above_over (child r.modules x.kernel) (child (child r.modules x.kernel) x.name) (child_above (child r.modules x.kernel) x.name)))
@@ -175,10 +175,16 @@ module _ (r : Roots) (s : Lists) (roots : AreRoots r) (valid : IsValidUnder r s)
 
   -- an index file's place isn't that of an entry of one
   pub no_deeper : (q : Path) (n : List ℕ) → IsIndex q → IsIndex (child q n) → ⊥
-  no_deeper q n a b = absurd (omega (arith,
-      ap length a.is, deeper (child r.modules a.kernel) a.name, deeper r.modules a.kernel,
-      ap length b.is, deeper (child r.modules b.kernel) b.name, deeper r.modules b.kernel,
-      deeper q n))
+  no_deeper q n a b = absurd (omega (
+    arith,
+    ap length a.is,
+    deeper (child r.modules a.kernel) a.name,
+    deeper r.modules a.kernel,
+    ap length b.is,
+    deeper (child r.modules b.kernel) b.name,
+    deeper r.modules b.kernel,
+    deeper q n,
+  ))
 
   pub fit_index : (a : Area) → IsFit r s.runs a → (q : Path) → reaches a q ≡ true → counts r a q ≡ true → (c : Request) × IsMember c s.runs × (reaches c.area q ≡ true)
   fit_index a (inl spares) q held counted = some_run q s.runs (spares.public q held counted)
@@ -187,12 +193,12 @@ module _ (r : Roots) (s : Lists) (roots : AreRoots r) (valid : IsValidUnder r s)
   -- no private head and no build directory is above an entry of an index file's place
   pub entry_open : (q : Path) (n : List ℕ) → IsIndex q → is_open r q ≡ true → is_open r (child q n) ≡ true
   entry_open q n x open_at = open_from r (child q n) (λ priv. elim (or_cases _ _ priv) [
-      | inl head ↦ no_private r roots q (child q n) (r.modules, is_root r root_name.Modules, index_below q x) open_at (above_over q (child q n) (child_above q n)) head
-      | inr build ↦
+    | inl head ↦ no_private r roots q (child q n) (r.modules, is_root r root_name.Modules, index_below q x) open_at (above_over q (child q n) (child_above q n)) head
+    | inr build ↦
         let w = build_parts r (child q n) build in
         not_in_both r roots r.dkms r.modules (is_root r root_name.Dkms) (is_root r root_name.Modules) (dkms_modules r roots) (child q n) (build_in_dkms r (child q n) w.0 w.1 w.3)
         (over_over r.modules q (child q n) (above_over r.modules q (index_below q x)) (above_over q (child q n) (child_above q n)))
-    ])
+  ])
 
   pub counted : (a : Area) (q : Path) → is_under_one (written_roots r) q ≡ true → is_open r q ≡ true → (is_list_of_names a ≡ false) ⊎ (is_initrd r q ≡ false) → counts r a q ≡ true
   counted a q written open_at (inl list) = and_from _ _ written (and_from _ _ open_at (ap (λ b. not (b && is_initrd r q)) list))
@@ -214,11 +220,11 @@ module _ (r : Roots) (s : Lists) (roots : AreRoots r) (valid : IsValidUnder r s)
       elim (cases_Bool (is_list_of_names l.area)) [
         | inl list ↦ let files = lets-files l.area q was left list l.lets in (area_dropped r s roots valid run.0 run.1 q run.2, files.was, files.left)
         | inr other ↦
-          let x = run_index run.0 run.1 q run.2 in
-          let entry = child q (codes "x") in
-          let below = above_over q entry (child_above q (codes "x")) in
-          let deeper_run = fit_index l.area l.fits entry (in_under l.area q entry other held below) (counted l.area entry (written_more q entry parts.0 below) (entry_open q (codes "x") x inner.0) (inl other)) in
-          absurd (no_deeper q (codes "x") x (run_index deeper_run.0 deeper_run.1 entry deeper_run.2))
+            let x = run_index run.0 run.1 q run.2 in
+            let entry = child q (codes "x") in
+            let below = above_over q entry (child_above q (codes "x")) in
+            let deeper_run = fit_index l.area l.fits entry (in_under l.area q entry other held below) (counted l.area entry (written_more q entry parts.0 below) (entry_open q (codes "x") x inner.0) (inl other)) in
+            absurd (no_deeper q (codes "x") x (run_index deeper_run.0 deeper_run.1 entry deeper_run.2))
       ]
 
   beside_soft : (q : Path) (was left : Option Node) → is_beside r q ≡ true → Lets (IsFit r s.runs) q was left → is_dir was ≡ is_dir left
@@ -228,30 +234,30 @@ module _ (r : Roots) (s : Lists) (roots : AreRoots r) (valid : IsValidUnder r s)
         | inl list ↦ let files = lets-files l.area q was left list l.lets in files.was ∙ sym files.left
         | inr other ↦ elim (or_cases _ _ beside) [
           | inl initrd ↦
-            let boot_in = initrd_in_boot r q initrd in
-            let run = fit_index l.area l.fits q held (counted l.area q (inside (written_roots r) r.boot q (listed_more r.boot r.dkms (r.src ∷ r.modules ∷ r.boot ∷ []) (listed_more r.boot r.src (r.modules ∷ r.boot ∷ []) (listed_more r.boot r.modules (r.boot ∷ []) (listed_first r.boot r.boot [] refl)))) boot_in) (initrd_open r roots q initrd) (inl other)) in
-            absurd (not_in_both r roots r.modules r.boot (is_root r root_name.Modules) (is_root r root_name.Boot) (modules_boot r roots) q (above_over r.modules q (index_below q (run_index run.0 run.1 q run.2))) boot_in)
+              let boot_in = initrd_in_boot r q initrd in
+              let run = fit_index l.area l.fits q held (counted l.area q (inside (written_roots r) r.boot q (listed_more r.boot r.dkms (r.src ∷ r.modules ∷ r.boot ∷ []) (listed_more r.boot r.src (r.modules ∷ r.boot ∷ []) (listed_more r.boot r.modules (r.boot ∷ []) (listed_first r.boot r.boot [] refl)))) boot_in) (initrd_open r roots q initrd) (inl other)) in
+              absurd (not_in_both r roots r.modules r.boot (is_root r root_name.Modules) (is_root r root_name.Boot) (modules_boot r roots) q (above_over r.modules q (index_below q (run_index run.0 run.1 q run.2))) boot_in)
           | inr above ↦
-            let w = written_above (written_roots r) q above in
-            let is = written_is_root r w.0 w.1 in
-            let run = fit_index l.area l.fits w.0 (in_under l.area q w.0 other held (above_over q w.0 w.2)) (counted l.area w.0 (inside (written_roots r) w.0 w.0 w.1 (over_itself w.0)) (root_open r roots w.0 is) (inl other)) in
-            absurd (disjoint_below (all_roots r) roots.disjoint r.modules w.0 (is_root r root_name.Modules) is (index_below w.0 (run_index run.0 run.1 w.0 run.2)))
-          ]
+              let w = written_above (written_roots r) q above in
+              let is = written_is_root r w.0 w.1 in
+              let run = fit_index l.area l.fits w.0 (in_under l.area q w.0 other held (above_over q w.0 w.2)) (counted l.area w.0 (inside (written_roots r) w.0 w.0 w.1 (over_itself w.0)) (root_open r roots w.0 is) (inl other)) in
+              absurd (disjoint_below (all_roots r) roots.disjoint r.modules w.0 (is_root r root_name.Modules) is (index_below w.0 (run_index run.0 run.1 w.0 run.2)))
+        ]
       ]
     where
       written_above : (ps : List Path) (q : Path) → list_any (is_above q) ps ≡ true → (x : Path) × (is_listed x ps ≡ true) × (is_above q x ≡ true)
       written_above [] q h = absurd (true≢false (sym h))
       written_above (p ∷ ps) q h = elim (or_cases _ _ h) [
-          | inl here ↦ (p, listed_first p p ps refl, here)
-          | inr later ↦ let w = written_above ps q later in (w.0, listed_more w.0 p ps w.1, w.2)
-        ]
+        | inl here ↦ (p, listed_first p p ps refl, here)
+        | inr later ↦ let w = written_above ps q later in (w.0, listed_more w.0 p ps w.1, w.2)
+      ]
 
   -- a place that is kept out
   out_same : (q : Path) (was left : Option Node) → is_kept_out r q ≡ true → (is_listed q (changed_paths s) ≡ true → ⊥) → Lets (IsFit r s.runs) q was left → ⊥
   out_same q was left out unchanged l = elim l.fits [
-      | inl spares ↦ true≢false (sym out ∙ spares.kept_out q (lets-in l.area q was left l.lets))
-      | inr own ↦ unchanged (listed_left q s.drops _ (area_dropped r s roots valid own.0 own.1 q (ap (λ b. reaches b q) (sym own.2) ∙ lets-in l.area q was left l.lets)))
-    ]
+    | inl spares ↦ true≢false (sym out ∙ spares.kept_out q (lets-in l.area q was left l.lets))
+    | inr own ↦ unchanged (listed_left q s.drops _ (area_dropped r s roots valid own.0 own.1 q (ap (λ b. reaches b q) (sym own.2) ∙ lets-in l.area q was left l.lets)))
+  ]
 
   staged_out : (c : StagedPut) → is_kept_out r (staged_at r c) ≡ true
   staged_out c = inside (kept_out_paths r) (staging_path (root_path r c.root)) (staged_at r c)
@@ -268,7 +274,7 @@ soft_behind r s soft v u roots valid fit left = record {
   journal = elim (left (intent_path r)) [
     | inl same ↦ same
     | inr lets ↦ absurd (out_same r s roots valid (intent_path r) _ _ (inside (kept_out_paths r) (intent_path r) (intent_path r) (at_0 (intent_path r) (staging_paths r)) (over_itself (intent_path r)))
-      (λ changed. valid.not_inside (intent_path r) changed (inside (untouched r) (intent_path r) (intent_path r) (at_0 (intent_path r) (new_intent_path r ∷ staging_paths r)) (over_itself (intent_path r))))
-      (some_area (IsFit r s.runs) soft (intent_path r) _ _ fit lets))
+        (λ changed. valid.not_inside (intent_path r) changed (inside (untouched r) (intent_path r) (intent_path r) (at_0 (intent_path r) (new_intent_path r ∷ staging_paths r)) (over_itself (intent_path r))))
+        (some_area (IsFit r s.runs) soft (intent_path r) _ _ fit lets))
   ];
 }

@@ -1,8 +1,6 @@
 -- Trees as what stands where, and what groups of changes make of them.
-use Rattle.std.specs.Prelude.{◌≡◌, ◌⊎◌, ℕ, Bool, true, false, List, [], ◌∷◌, Some, None}
+use Rattle.std.specs.Prelude.{◌≡◌, ◌⊎◌, true, List, Some, None}
 use Rattle.std.specs.declared.option.Option.{Option}
-use Rattle.std.specs.List.{list_any}
-use Rattle.kb_world.specs.TreeLaws.{same_path}
 use Rattle.kb_again.proofs.PathLaws.{is_over, is_listed}
 use Rattle.kb_world.specs.declared.tree.Node.{Node}
 use Rattle.kb_world.specs.Path.{Path, parent}

@@ -1,5 +1,5 @@
 -- Steps: something done at a path, or a child that is run.
-use Rattle.std.specs.Prelude.{◌≡◌, ◌⊎◌, ℕ, Bool, true, false, not, cond, ◌&&◌, List, [], ◌∷◌, ◌++◌, map, Option, Some, None}
+use Rattle.std.specs.Prelude.{◌≡◌, ◌⊎◌, not, cond, ◌&&◌, List, [], ◌∷◌, ◌++◌, map, Option, Some, None}
 use Rattle.std.specs.List.{cons_option}
 use Rattle.kb_world.specs.Path.{Path, parent}
 use Rattle.kb_world.specs.Script.{Script, answer, edit_of}
@@ -17,7 +17,6 @@ use Rattle.kb_changes.specs.declared.change.Change.{Change}
 use Rattle.kb_changes.specs.declared.change.Change.TheVariants as change
 use Rattle.kb_again.specs.Sparing.{reaches}
 use Rattle.kb_again.proofs.Standing.{Between}
-use Rattle.kb_again.proofs.PathLaws.{is_listed}
 use Rattle.kb_again.proofs.Ends.{in_turn, IsMember, wipe_at}
 use Rattle.kb_again.proofs.Parts.{IsPart, done}
 use Rattle.kb_again.proofs.Flat.{Act, to_drop, to_wipe, to_drop_dir, to_make, to_put, do_act, acts_of}

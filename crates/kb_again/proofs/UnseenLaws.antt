@@ -1,11 +1,11 @@
 -- Nobody looks at the journal: trees that are alike but there stay alike but there.
-use Rattle.std.proofs.Common.{◌≡◌, ◌⊎◌, inl, inr, Bool, true, false, not, cond, ◌&&◌, ◌||◌, List, [], ◌∷◌, map, codes, refl, sym, ap, ◌∙◌, subst}
+use Rattle.std.proofs.Common.{◌≡◌, ◌⊎◌, inl, inr, Bool, true, false, not, cond, List, [], ◌∷◌, codes, refl, sym, ap, ◌∙◌, subst}
 use Rattle.std.proofs.lemmas.Bool.{cases_Bool, true≢false, or_left, false_from_ne_true}
 use Rattle.kb_world.specs.Path.{Path, parent, child}
 use Rattle.kb_world.specs.Public.{staging_path}
 use Rattle.kb_world.specs.Script.{Script, answer}
 use Rattle.kb_world.specs.Tree.{Tree, node_at, is_dir}
-use Rattle.kb_world.specs.View.{sees, view_of}
+use Rattle.kb_world.specs.View.{view_of}
 use Rattle.kb_world.specs.declared.child.Request.{Request}
 use Rattle.kb_world.specs.declared.roots.Roots.{Roots}
 use Rattle.kb_changes.specs.Change.{root_path}
@@ -61,9 +61,9 @@ module _ (r : Roots) (s : Lists) (roots : AreRoots r) (valid : IsValidUnder r s)
       absurd (elim (over_or_above q w.0 x (above_over q x below) w.2) [
         | inr above ↦ at_head (above_over w.0 q above)
         | inl q_under ↦ elim (over_cases q w.0 q_under) [
-            | inl same ↦ at_head (subst (λ y. is_over w.0 y ≡ true) (sym same) (over_itself w.0))
-            | inr further ↦ not_at_root r roots q f.0 (below_root r s roots valid q (cleared_listed q listed)) f.2 (above_child q f.0 f.1 (subst (λ y. is_above q y ≡ true) f.3 further))
-          ]
+          | inl same ↦ at_head (subst (λ y. is_over w.0 y ≡ true) (sym same) (over_itself w.0))
+          | inr further ↦ not_at_root r roots q f.0 (below_root r s roots valid q (cleared_listed q listed)) f.2 (above_child q f.0 f.1 (subst (λ y. is_above q y ≡ true) f.3 further))
+        ]
       ])
 
   shown_hidden : IsHidden (is_plain r) nowhere (groups_of r s)
@@ -71,8 +71,8 @@ module _ (r : Roots) (s : Lists) (roots : AreRoots r) (valid : IsValidUnder r s)
     above = shown_up r;
     spared = λ q h no. true≢false (sym no);
     staged = λ m h shown.
-      let w = move_from r s roots valid s.puts m h in
-      not_shown r m.0 (wiped_staged w.0 m.0 (subst (λ k. is_over (staging_path (root_path r w.0.root)) k ≡ true) (sym (ap (λ k. k.0) w.2)) (staged_under r s roots valid w.0))) shown;
+        let w = move_from r s roots valid s.puts m h in
+        not_shown r m.0 (wiped_staged w.0 m.0 (subst (λ k. is_over (staging_path (root_path r w.0.root)) k ≡ true) (sym (ap (λ k. k.0) w.2)) (staged_under r s roots valid w.0))) shown;
     within = shown_within;
   }
     where
@@ -81,22 +81,22 @@ module _ (r : Roots) (s : Lists) (roots : AreRoots r) (valid : IsValidUnder r s)
 
   run_alike : (f : Script) (c : Request) (t u : Tree) → IsMember c s.runs → SameOn (is_plain r) t u → SameOn (is_plain r) (run_request f r c t) (run_request f r c u)
   run_alike f c t u in_it same = elim (valid.runs c in_it) [
-      | inl none ↦ λ q is. ap (λ v. node_at v q) (run_nothing f r c t none) ∙ same q is ∙ sym (ap (λ v. node_at v q) (run_nothing f r c u none))
-      | inr index ↦ λ q is.
+    | inl none ↦ λ q is. ap (λ v. node_at v q) (run_nothing f r c t none) ∙ same q is ∙ sym (ap (λ v. node_at v q) (run_nothing f r c u none))
+    | inr index ↦ λ q is.
         let at_base : is_plain r c.dir ≡ true = ap (is_plain r) index.1.dir ∙ open_shown r r.base (base_open r roots) in
         let dirs : is_dir (node_at t c.dir) ≡ is_dir (node_at u c.dir) = ap is_dir (same c.dir at_base) in
         elim (cases_Bool (is_dir (node_at t c.dir))) [
           | inl dir ↦
-            ap (λ b. node_at (cond b (in_turn (effect_in c.area) (writes f c (view_of r c t)) t) t) q) dir
-            ∙ effects_same (is_plain r) nowhere (shown_up r) c.area (writes f c (view_of r c t)) t u same (λ x no. absurd (true≢false (sym no))) q is
-            ∙ ap (λ w. node_at (in_turn (effect_in c.area) (writes f c w) u) q) (view_alike (is_plain r) r c t u (λ x seen. open_shown r x (seen_open r s roots valid c in_it x seen)) same)
-            ∙ sym (ap (λ b. node_at (cond b (in_turn (effect_in c.area) (writes f c (view_of r c u)) u) u) q) (sym dirs ∙ dir))
+              ap (λ b. node_at (cond b (in_turn (effect_in c.area) (writes f c (view_of r c t)) t) t) q) dir
+              ∙ effects_same (is_plain r) nowhere (shown_up r) c.area (writes f c (view_of r c t)) t u same (λ x no. absurd (true≢false (sym no))) q is
+              ∙ ap (λ w. node_at (in_turn (effect_in c.area) (writes f c w) u) q) (view_alike (is_plain r) r c t u (λ x seen. open_shown r x (seen_open r s roots valid c in_it x seen)) same)
+              ∙ sym (ap (λ b. node_at (cond b (in_turn (effect_in c.area) (writes f c (view_of r c u)) u) u) q) (sym dirs ∙ dir))
           | inr isnt ↦
-            ap (λ b. node_at (cond b (in_turn (effect_in c.area) (writes f c (view_of r c t)) t) t) q) isnt
-            ∙ same q is
-            ∙ sym (ap (λ b. node_at (cond b (in_turn (effect_in c.area) (writes f c (view_of r c u)) u) u) q) (sym dirs ∙ isnt))
+              ap (λ b. node_at (cond b (in_turn (effect_in c.area) (writes f c (view_of r c t)) t) t) q) isnt
+              ∙ same q is
+              ∙ sym (ap (λ b. node_at (cond b (in_turn (effect_in c.area) (writes f c (view_of r c u)) u) u) q) (sym dirs ∙ isnt))
         ]
-    ]
+  ]
 
   runs_alike : (f : Script) (cs : List Request) (t u : Tree) → ((c : Request) → IsMember c cs → IsMember c s.runs) → SameOn (is_plain r) t u → SameOn (is_plain r) (in_turn (run_request f r) cs t) (in_turn (run_request f r) cs u)
   runs_alike f [] t u all same = same
@@ -106,7 +106,7 @@ pub unseen : (f : Script) (r : Roots) (s : Lists) (t u : Tree) → AreRoots r �
     → ((c : StagedPut) → IsMember c s.puts → node_at u (staged_at r c) ≡ node_at t (staged_at r c)) → SameOn (is_plain r) (after_all f r s t) (after_all f r s u)
 unseen f r s t u roots valid whole whole_u same staged =
     let groups = open_same (is_plain r) nowhere (groups_of r s) t u (groups_valid r s roots valid) (shown_hidden r s roots valid) whole whole_u (λ q is. inl (sym (same q is))) (λ q no. absurd (true≢false (sym no)))
-      (λ m h is. let w = move_from r s roots valid s.puts m h in inl (subst (λ k. node_at u k.0 ≡ node_at t k.0) (sym w.2) (staged w.0 w.1))) in
+    (λ m h is. let w = move_from r s roots valid s.puts m h in inl (subst (λ k. node_at u k.0 ≡ node_at t k.0) (sym w.2) (staged w.0 w.1))) in
     runs_alike r s roots valid f s.runs _ _ (λ c h. h) groups.0
 
 -- ---- what the runs answer
@@ -140,9 +140,9 @@ module _ (r : Roots) (s : Lists) (roots : AreRoots r) (valid : IsValidUnder r s)
 
   dir_alike : (t u : Tree) → Alike t u → (q : Path) → is_dir (node_at t q) ≡ is_dir (node_at u q)
   dir_alike t u same q = elim (cases_Bool (is_plain r q)) [
-      | inl shown ↦ ap is_dir (same.0 q shown)
-      | inr hidden ↦ same.1 q (ap not hidden)
-    ]
+    | inl shown ↦ ap is_dir (same.0 q shown)
+    | inr hidden ↦ same.1 q (ap not hidden)
+  ]
 
   seen_alike : (c : Request) (f : Script) (t u : Tree) → IsMember c s.runs → Alike t u → answer f c (view_of r c t) ≡ answer f c (view_of r c u)
   seen_alike c f t u h same = ap (answer f c) (view_alike (is_plain r) r c t u (λ x seen. open_shown r x (seen_open r s roots valid c h x seen)) same.0)
@@ -169,7 +169,7 @@ pub seen_alike_all : (f : Script) (r : Roots) (s : Lists) (t u : Tree) → AreRo
     → ((c : StagedPut) → IsMember c s.puts → node_at u (staged_at r c) ≡ node_at t (staged_at r c)) → AreSeenAlike f r s t u
 seen_alike_all f r s t u roots valid whole whole_u same dirs staged =
     let groups = open_same (is_plain r) (out r s roots valid) (groups_of r s) t u (groups_valid r s roots valid) (all_hidden r s roots valid) whole whole_u (λ q is. inl (sym (same q is))) dirs
-      (λ m h is. let w = move_from r s roots valid s.puts m h in inl (subst (λ k. node_at u k.0 ≡ node_at t k.0) (sym w.2) (staged w.0 w.1))) in
+    (λ m h is. let w = move_from r s roots valid s.puts m h in inl (subst (λ k. node_at u k.0 ≡ node_at t k.0) (sym w.2) (staged w.0 w.1))) in
     let all = replies_alike r s roots valid f s.runs _ _ (λ c h. h) groups in
     record {
       same = unseen f r s t u roots valid whole whole_u same staged;

@@ -1,23 +1,22 @@
 -- Valid changes in the terms of their groups.
-use Rattle.std.proofs.Common.{◌≡◌, ◌⊎◌, inl, inr, ℕ, ◌≤◌, ◌+◌, Bool, true, false, not, ◌&&◌, ◌||◌, List, [], ◌∷◌, ◌++◌, length, map, codes, refl, sym, ap, ◌∙◌, subst, arith}
+use Rattle.std.proofs.Common.{◌≡◌, ◌⊎◌, inl, inr, Bool, true, false, not, List, [], ◌∷◌, ◌++◌, map, codes, refl, sym, ap, ◌∙◌, subst, arith}
 use Rattle.std.specs.Fmt.{decimal}
-use Rattle.std.specs.List.{list_any}
 use Rattle.std.proofs.lemmas.Bool.{cases_Bool, true≢false, and_parts, and_from, or_cases, or_left, or_right, and_cases, false_from_ne_true}
 use Rattle.kb_world.specs.Path.{Path, parent, child}
-use Rattle.kb_world.specs.Public.{staging_path, private_places, is_private}
+use Rattle.kb_world.specs.Public.{staging_path}
 use Rattle.kb_world.specs.declared.roots.Roots.{Roots}
 use Rattle.kb_changes.specs.Change.{root_path}
 use Rattle.kb_changes.specs.Valid.{written_roots, is_initrd}
 use Rattle.kb_changes.specs.declared.change.RootName.TheVariants as root_name
-use Rattle.kb_again.proofs.Ends.{Move, is_under_one, IsMember, Disjoint, MovesApart}
-use Rattle.kb_again.proofs.Facts.{all_roots, AreRoots, untouched, staging_paths, build_at, is_open, is_steady, is_beside, StagedPut, Lists, staged_at, move_of, groups_of, targets, changed_paths, AreDifferent, IsValidUnder}
+use Rattle.kb_again.proofs.Ends.{Move, is_under_one, IsMember, MovesApart}
+use Rattle.kb_again.proofs.Facts.{all_roots, AreRoots, untouched, build_at, is_open, is_steady, is_beside, StagedPut, Lists, staged_at, move_of, groups_of, targets, changed_paths, AreDifferent, IsValidUnder}
 use Rattle.kb_again.proofs.FrontLaws.{listed_left, listed_right}
 use Rattle.kb_again.proofs.Kept.{IsHidden}
 use Rattle.kb_again.proofs.KeptLaws.{wiped_under, parent_under}
 use Rattle.kb_again.proofs.Parts.{IsValid}
 use Rattle.kb_again.proofs.PathLaws.{is_over, is_above, is_listed, over_itself, above_over, over_cases, above_over_above, listed_first, listed_more, none_above_root}
 use Rattle.kb_again.proofs.PlaceLaws.{initrd_child, build_parts, build_from}
-use Rattle.kb_again.proofs.RootLaws.{above_child, child_above, over_or_above, length_over, length_child, inside, private_under, not_open, open_from, private_from, disjoint_below, IsBelowRoot, is_root, written_is_root, not_at_root, staging_kept_out, is_staging, untouched_private, no_private, above_some, parent_written}
+use Rattle.kb_again.proofs.RootLaws.{above_child, child_above, over_or_above, length_over, length_child, inside, private_under, not_open, open_from, private_from, disjoint_below, IsBelowRoot, is_root, written_is_root, not_at_root, staging_kept_out, untouched_private, no_private, above_some, parent_written}
 
 pub not_false : (b : Bool) → not b ≡ false → b ≡ true
 not_false true e = refl
@@ -73,30 +72,30 @@ module _ (r : Roots) (s : Lists) (roots : AreRoots r) (valid : IsValidUnder r s)
   puts_apart : MovesApart (map (move_of r) s.puts)
   puts_apart = record {
     own = λ m h e.
-      let w = move_from s.puts m h in
-      no_staged w.0 w.0.target (target_changed w.0 w.1) (sym (ap (λ k. k.0) w.2) ∙ e ∙ ap (λ k. k.1) w.2);
+        let w = move_from s.puts m h in
+        no_staged w.0 w.0.target (target_changed w.0 w.1) (sym (ap (λ k. k.0) w.2) ∙ e ∙ ap (λ k. k.1) w.2);
     two = λ m n hm hn.
-      let w = move_from s.puts m hm in
-      let x = move_from s.puts n hn in
-      elim (different_two s.puts valid.different w.0 x.0 w.1 x.1) [
-        | inl one ↦ inl (w.2 ∙ ap (move_of r) one ∙ sym x.2)
-        | inr two ↦ inr (record {
+        let w = move_from s.puts m hm in
+        let x = move_from s.puts n hn in
+        elim (different_two s.puts valid.different w.0 x.0 w.1 x.1) [
+          | inl one ↦ inl (w.2 ∙ ap (move_of r) one ∙ sym x.2)
+          | inr two ↦ inr (record {
             sources = λ e. two.1 (sym (ap (λ k. k.0) w.2) ∙ e ∙ ap (λ k. k.0) x.2);
             source_target = λ e. no_staged w.0 x.0.target (target_changed x.0 x.1) (sym (ap (λ k. k.0) w.2) ∙ e ∙ ap (λ k. k.1) x.2);
             target_source = λ e. no_staged x.0 w.0.target (target_changed w.0 w.1) (sym (ap (λ k. k.0) x.2) ∙ sym e ∙ ap (λ k. k.1) w.2);
             targets = λ e. two.0 (sym (ap (λ k. k.1) w.2) ∙ e ∙ ap (λ k. k.1) x.2);
           })
-      ];
+        ];
   }
 
   not_above_staged : (c : StagedPut) (q : Path) → is_listed q (changed_paths s) ≡ true → is_over q (staged_at r c) ≡ true → ⊥
   not_above_staged c q changed under = elim (over_cases q (staged_at r c) under) [
-      | inl same ↦ no_staged c q changed (sym same)
-      | inr further ↦ elim (over_cases q (staging_path (root_path r c.root)) (above_child q (staging_path (root_path r c.root)) (decimal c.number) further)) [
-          | inl same ↦ not_staged q c changed (subst (λ x. is_over (staging_path (root_path r c.root)) x ≡ true) (sym same) (over_itself (staging_path (root_path r c.root))))
-          | inr above ↦ not_at_root r roots q (root_path r c.root) (below_root q changed) (is_root r c.root) (above_child q (root_path r c.root) (codes ".kb-staged") above)
-        ]
+    | inl same ↦ no_staged c q changed (sym same)
+    | inr further ↦ elim (over_cases q (staging_path (root_path r c.root)) (above_child q (staging_path (root_path r c.root)) (decimal c.number) further)) [
+      | inl same ↦ not_staged q c changed (subst (λ x. is_over (staging_path (root_path r c.root)) x ≡ true) (sym same) (over_itself (staging_path (root_path r c.root))))
+      | inr above ↦ not_at_root r roots q (root_path r c.root) (below_root q changed) (is_root r c.root) (above_child q (root_path r c.root) (codes ".kb-staged") above)
     ]
+  ]
 
   pub groups_valid : IsValid (groups_of r s)
   groups_valid = record {
@@ -125,30 +124,35 @@ module _ (r : Roots) (s : Lists) (roots : AreRoots r) (valid : IsValidUnder r s)
       elim (or_cases _ _ (private_from r x hidden)) [
         | inl head ↦ absurd (no_private r roots q x below_root open_at (above_over q x below) head)
         | inr build ↦
-          let w = build_parts r x build in
-          let at_build = build_at r w.0 w.1 in
-          let version = child (child r.dkms w.0) w.1 in
-          let q_private : is_over at_build q ≡ true → ⊥ = λ h. not_open r q (or_right _ _ (build_from r q w.0 w.1 w.2 h)) open_at in
-          elim (over_or_above q at_build x (above_over q x below) w.3) [
-            | inr above ↦ absurd (q_private (above_over at_build q above))
-            | inl under ↦ elim (over_cases q at_build under) [
+            let w = build_parts r x build in
+            let at_build = build_at r w.0 w.1 in
+            let version = child (child r.dkms w.0) w.1 in
+            let q_private : is_over at_build q ≡ true → ⊥ = λ h. not_open r q (or_right _ _ (build_from r q w.0 w.1 w.2 h)) open_at in
+            elim (over_or_above q at_build x (above_over q x below) w.3) [
+              | inr above ↦ absurd (q_private (above_over at_build q above))
+              | inl under ↦ elim (over_cases q at_build under) [
                 | inl same ↦ absurd (q_private (subst (λ y. is_over at_build y ≡ true) (sym same) (over_itself at_build)))
                 | inr further ↦ elim (over_cases q version (above_child q version (codes "build") further)) [
-                    | inl same ↦ inl (inside s.wipes at_build x (valid.build_wiped w.0 w.1 w.2 (subst (λ y. (is_listed y s.first ≡ true) ⊎ (is_listed y s.second ≡ true)) same listed)) w.3)
-                    | inr above ↦
+                  | inl same ↦ inl (inside s.wipes at_build x (valid.build_wiped w.0 w.1 w.2 (subst (λ y. (is_listed y s.first ≡ true) ⊎ (is_listed y s.second ≡ true)) same listed)) w.3)
+                  | inr above ↦
                       let q_up = above_child q (child r.dkms w.0) w.1 above in
                       elim (over_cases q (child r.dkms w.0) q_up) [
                         | inr higher ↦ absurd (not_at_root r roots q r.dkms below_root (is_root r root_name.Dkms) (above_child q r.dkms w.0 higher))
-                        | inl same ↦ inr (version, above, above_over_above version at_build x (child_above version (codes "build")) w.3, open_from r version (λ priv. elim (or_cases _ _ priv) [
+                        | inl same ↦ inr (
+                          version,
+                          above,
+                          above_over_above version at_build x (child_above version (codes "build")) w.3,
+                          open_from r version (λ priv. elim (or_cases _ _ priv) [
                             | inl head ↦ no_private r roots q version below_root open_at (above_over q version above) head
                             | inr deeper ↦
-                              let z = build_parts r version deeper in
-                              omega (arith, length_over (build_at r z.0 z.1) version z.3, length_child (child (child r.dkms z.0) z.1) (codes "build"), length_child (child r.dkms z.0) z.1, length_child r.dkms z.0, length_child (child r.dkms w.0) w.1, length_child r.dkms w.0)
-                          ]))
+                                let z = build_parts r version deeper in
+                                omega (arith, length_over (build_at r z.0 z.1) version z.3, length_child (child (child r.dkms z.0) z.1) (codes "build"), length_child (child r.dkms z.0) z.1, length_child r.dkms z.0, length_child (child r.dkms w.0) w.1, length_child r.dkms w.0)
+                          ]),
+                        )
                       ]
-                  ]
+                ]
               ]
-          ]
+            ]
       ]
 
   not_initrd : (q x : Path) → is_listed q (changed_paths s) ≡ true → is_above q x ≡ true → is_initrd r x ≡ true → ⊥
@@ -170,22 +174,22 @@ module _ (r : Roots) (s : Lists) (roots : AreRoots r) (valid : IsValidUnder r s)
       elim (and_cases _ _ hidden) [
         | inl out ↦ absurd (true≢false (sym written ∙ out))
         | inr inner ↦ elim (and_cases _ _ inner) [
-            | inr initrd ↦ absurd (not_initrd q x changed below (not_false _ initrd))
-            | inl private_one ↦ elim (groups_within q x listed (and_parts _ _ parts.1).0 below private_one) [
-                | inl wipes ↦ inl wipes
-                | inr y ↦ inr (y.0, y.1, y.2, steady_from y.0 (written_down q y.0 parts.0 y.1) y.3 (not_initrd q y.0 changed y.1))
-              ]
+          | inr initrd ↦ absurd (not_initrd q x changed below (not_false _ initrd))
+          | inl private_one ↦ elim (groups_within q x listed (and_parts _ _ parts.1).0 below private_one) [
+            | inl wipes ↦ inl wipes
+            | inr y ↦ inr (y.0, y.1, y.2, steady_from y.0 (written_down q y.0 parts.0 y.1) y.3 (not_initrd q y.0 changed y.1))
           ]
+        ]
       ]
 
   not_beside : (q : Path) → is_listed q (changed_paths s) ≡ true → is_beside r q ≡ true → ⊥
   not_beside q changed is = elim (or_cases _ _ is) [
-      | inl initrd ↦ valid.no_initrd q changed initrd
-      | inr above ↦
+    | inl initrd ↦ valid.no_initrd q changed initrd
+    | inr above ↦
         let w = above_some r q above in
         let b = below_root q changed in
         disjoint_below (all_roots r) roots.disjoint b.0 w.0 b.1 w.1 (above_over_above b.0 q w.0 b.2 (above_over q w.0 w.2))
-    ]
+  ]
 
   spared_by : (q : Path) → ((is_listed q s.first ≡ true) ⊎ (is_listed q s.second ≡ true)) ⊎ (is_listed q s.dirs ≡ true) → is_beside r q ≡ true → ⊥
   spared_by q (inl h) is = not_beside q (cleared_changed q h) is
@@ -194,18 +198,18 @@ module _ (r : Roots) (s : Lists) (roots : AreRoots r) (valid : IsValidUnder r s)
   pub groups_hidden : IsHidden (is_steady r) (is_beside r) (groups_of r s)
   groups_hidden = record {
     above = λ q steady.
-      let parts = and_parts _ _ steady in
-      let up = open_from r (parent q) (λ priv. not_open r q (private_under r (parent q) q (parent_under q) priv) (and_parts _ _ parts.1).0) in
-      elim (cases_Bool (is_initrd r (parent q))) [
-        | inl is ↦ inr (or_left _ _ is)
-        | inr out ↦ elim (parent_written r roots q parts.0) [
+        let parts = and_parts _ _ steady in
+        let up = open_from r (parent q) (λ priv. not_open r q (private_under r (parent q) q (parent_under q) priv) (and_parts _ _ parts.1).0) in
+        elim (cases_Bool (is_initrd r (parent q))) [
+          | inl is ↦ inr (or_left _ _ is)
+          | inr out ↦ elim (parent_written r roots q parts.0) [
             | inl written ↦ inl (and_from _ _ written (and_from _ _ up (ap not out)))
             | inr over ↦ inr (or_right _ _ over)
           ]
-      ];
+        ];
     spared = spared_by;
     staged = λ m h steady.
-      let w = move_from s.puts m h in
-      not_open r m.0 (or_left _ _ (untouched_private r m.0 (inside (untouched r) (staging_path (root_path r w.0.root)) m.0 (staging_kept_out r w.0.root) (subst (λ k. is_over (staging_path (root_path r w.0.root)) k ≡ true) (sym (ap (λ k. k.0) w.2)) (staged_under w.0))))) (and_parts _ _ (and_parts _ _ steady).1).0;
+        let w = move_from s.puts m h in
+        not_open r m.0 (or_left _ _ (untouched_private r m.0 (inside (untouched r) (staging_path (root_path r w.0.root)) m.0 (staging_kept_out r w.0.root) (subst (λ k. is_over (staging_path (root_path r w.0.root)) k ≡ true) (sym (ap (λ k. k.0) w.2)) (staged_under w.0))))) (and_parts _ _ (and_parts _ _ steady).1).0;
     within = steady_within;
   }

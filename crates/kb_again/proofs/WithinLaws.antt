@@ -1,8 +1,8 @@
 -- Changes that are cut off.
-use Rattle.std.proofs.Common.{◌≡◌, ◌⊎◌, inl, inr, ℕ, List, [], ◌∷◌, ◌++◌, map, refl, sym, ap, ◌∙◌, subst, append_assoc}
+use Rattle.std.proofs.Common.{◌≡◌, ◌⊎◌, inl, inr, List, [], ◌∷◌, ◌++◌, map, refl, sym, ap, ◌∙◌, subst, append_assoc}
 use Rattle.kb_world.specs.Path.{Path}
 use Rattle.kb_world.specs.Tree.{Tree, node_at}
-use Rattle.kb_again.proofs.Ends.{drop_at, wipe_at, in_turn}
+use Rattle.kb_again.proofs.Ends.{wipe_at, in_turn}
 use Rattle.kb_again.proofs.Flat.{Act, to_drop, to_wipe, to_drop_dir, to_make, to_put, do_act, do_acts, put_of, acts_of}
 use Rattle.kb_again.proofs.FrontLaws.{in_turn-append, front_is_part, wipes_between}
 use Rattle.kb_again.proofs.Parts.{Groups, dropped_tree, wiped_tree, IsValid, IsPart, in_wipes}
@@ -45,18 +45,18 @@ wipe_within g front back p t v e between =
     let c = to_wipe p in
     let a = past to_drop c (λ x h. cc) front back l1 g.drops e in
     let none : (later : List Act) → later ++ c ∷ back ≡ l2 → ⊥ = λ later h.
-      let first = past to_drop_dir c (λ x k. cc) later back l3 g.first h in
-      let dirs = past to_make c (λ x k. cc) first.0 back l4 g.dirs first.2 in
-      let puts = past put_of c (λ x k. cc) dirs.0 back l5 g.puts dirs.2 in
-      not_last to_drop_dir c (λ x k. cc) puts.0 back g.second puts.2 in
+    let first = past to_drop_dir c (λ x k. cc) later back l3 g.first h in
+    let dirs = past to_make c (λ x k. cc) first.0 back l4 g.dirs first.2 in
+    let puts = past put_of c (λ x k. cc) dirs.0 back l5 g.puts dirs.2 in
+    not_last to_drop_dir c (λ x k. cc) puts.0 back g.second puts.2 in
     let w = in_wipe_group p a.0 back l2 g.wipes none a.2 in
     let s = dropped_tree g t in
     let u = in_turn wipe_at w.0 s in
     let is : do_acts front t ≡ u =
-      ap (λ xs. do_acts xs t) (a.1 ∙ ap (λ l. map to_drop g.drops ++ l) w.3)
-      ∙ in_turn-append do_act (map to_drop g.drops) (map to_wipe w.0) t
-      ∙ ap (do_acts (map to_wipe w.0)) (turn_map to_drop do_act g.drops t)
-      ∙ turn_map to_wipe do_act w.0 s in
+    ap (λ xs. do_acts xs t) (a.1 ∙ ap (λ l. map to_drop g.drops ++ l) w.3)
+    ∙ in_turn-append do_act (map to_drop g.drops) (map to_wipe w.0) t
+    ∙ ap (do_acts (map to_wipe w.0)) (turn_map to_drop do_act g.drops t)
+    ∙ turn_map to_wipe do_act w.0 s in
     let whole : (w.0 ++ p ∷ []) ++ w.1 ≡ g.wipes = append_assoc w.0 (p ∷ []) w.1 ∙ w.2 in
     let old : Between (node_at s) (node_at (wiped_tree g t)) (node_at u) = subst (λ ps. Between (node_at s) (node_at (in_turn wipe_at ps s)) (node_at u)) w.2 (wipes_between w.0 (p ∷ w.1) s) in
     let new : Between (node_at s) (node_at (wiped_tree g t)) (node_at (wipe_at p u)) = subst (λ x. Between (node_at s) (node_at (wiped_tree g t)) (node_at x)) (in_turn-append wipe_at w.0 (p ∷ []) s) (subst (λ ps. Between (node_at s) (node_at (in_turn wipe_at ps s)) (node_at (in_turn wipe_at (w.0 ++ p ∷ []) s))) whole (wipes_between (w.0 ++ p ∷ []) w.1 s)) in

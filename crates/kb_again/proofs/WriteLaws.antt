@@ -1,11 +1,11 @@
 -- What a child does to a tree: it sees some of the files and links, and leaves files and links.
-use Rattle.std.proofs.Common.{◌≡◌, ◌⊎◌, inl, inr, ℕ, Bool, true, false, not, cond, ◌&&◌, List, [], ◌∷◌, map, Option, Some, None, is_some, refl, sym, ap, ◌∙◌, subst}
+use Rattle.std.proofs.Common.{◌≡◌, ◌⊎◌, inl, inr, Bool, true, false, not, cond, ◌&&◌, List, [], ◌∷◌, map, Option, Some, None, is_some, refl, sym, ap, ◌∙◌, subst}
 use Rattle.std.specs.FinMap.{get-retain_keys}
-use Rattle.std.specs.List.{cons_option, fold}
+use Rattle.std.specs.List.{cons_option}
 use Rattle.std.proofs.lemmas.Bool.{cases_Bool, true≢false, and_parts}
-use Rattle.kb_world.specs.Area.{holds, is_named}
+use Rattle.kb_world.specs.Area.{is_named}
 use Rattle.kb_world.specs.Path.{Path, parent}
-use Rattle.kb_world.specs.Script.{Script, answer, edit_of, copied, can_edit, with_edit, after_edits, after_effects, tree_after}
+use Rattle.kb_world.specs.Script.{Script, answer, edit_of, copied, can_edit, with_edit, after_edits, tree_after}
 use Rattle.kb_world.specs.Tree.{Tree, node_at, is_dir, edited}
 use Rattle.kb_world.specs.TreeLaws.{paths_exact, same_tree, with_node-here, with_node-apart, remove-here, remove-apart}
 use Rattle.kb_world.specs.View.{sees, view_of}
@@ -38,9 +38,9 @@ softly_same ps t q = inl refl
 
 pub softly_more : (ps : List Path) (t u v : Tree) → IsSoftly ps t u → IsSoftly ps u v → IsSoftly ps t v
 softly_more ps t u v first second q = elim (second q) [
-    | inl same ↦ elim (first q) [ inl was ↦ inl (same ∙ was) | inr open_at ↦ inr (open_at.0, open_at.1, ap is_dir same ∙ open_at.2) ]
-    | inr now ↦ elim (first q) [ inl was ↦ inr (now.0, ap is_dir (sym was) ∙ now.1, now.2) | inr open_at ↦ inr (now.0, open_at.1, now.2) ]
-  ]
+  | inl same ↦ elim (first q) [ inl was ↦ inl (same ∙ was) | inr open_at ↦ inr (open_at.0, open_at.1, ap is_dir same ∙ open_at.2) ]
+  | inr now ↦ elim (first q) [ inl was ↦ inr (now.0, ap is_dir (sym was) ∙ now.1, now.2) | inr open_at ↦ inr (now.0, open_at.1, now.2) ]
+]
 
 pub edited-here : (p : Path) (o : Option Node) (t : Tree) → node_at (edited p o t) p ≡ o
 edited-here p None t = remove-here t p
@@ -57,15 +57,15 @@ node_at-view r c t q = get-retain_keys t (λ x. sees r c x && not (is_dir (node_
 
 pub view_same : (r : Roots) (c : Request) (t u : Tree) → ((q : Path) → sees r c q ≡ true → is_steady r q ≡ true) → SameOn (is_steady r) t u → view_of r c t ≡ view_of r c u
 view_same r c t u steady same = same_tree _ _ (λ q. node_at-view r c t q ∙ elim (cases_Bool (sees r c q)) [
-    | inl is ↦ ap (λ o. cond (sees r c q && not (is_dir o)) o None) (same q (steady q is))
-    | inr isnt ↦ ap (λ b. cond (b && not (is_dir (node_at t q))) (node_at t q) None) isnt ∙ sym (ap (λ b. cond (b && not (is_dir (node_at u q))) (node_at u q) None) isnt)
-  ] ∙ sym (node_at-view r c u q))
+  | inl is ↦ ap (λ o. cond (sees r c q && not (is_dir o)) o None) (same q (steady q is))
+  | inr isnt ↦ ap (λ b. cond (b && not (is_dir (node_at t q))) (node_at t q) None) isnt ∙ sym (ap (λ b. cond (b && not (is_dir (node_at u q))) (node_at u q) None) isnt)
+] ∙ sym (node_at-view r c u q))
 
 pub view_alike : (p : Path → Bool) (r : Roots) (c : Request) (t u : Tree) → ((q : Path) → sees r c q ≡ true → p q ≡ true) → SameOn p t u → view_of r c t ≡ view_of r c u
 view_alike p r c t u steady same = same_tree _ _ (λ q. node_at-view r c t q ∙ elim (cases_Bool (sees r c q)) [
-    | inl is ↦ ap (λ o. cond (sees r c q && not (is_dir o)) o None) (same q (steady q is))
-    | inr isnt ↦ ap (λ b. cond (b && not (is_dir (node_at t q))) (node_at t q) None) isnt ∙ sym (ap (λ b. cond (b && not (is_dir (node_at u q))) (node_at u q) None) isnt)
-  ] ∙ sym (node_at-view r c u q))
+  | inl is ↦ ap (λ o. cond (sees r c q && not (is_dir o)) o None) (same q (steady q is))
+  | inr isnt ↦ ap (λ b. cond (b && not (is_dir (node_at t q))) (node_at t q) None) isnt ∙ sym (ap (λ b. cond (b && not (is_dir (node_at u q))) (node_at u q) None) isnt)
+] ∙ sym (node_at-view r c u q))
 
 can_leave : Area → Written → Tree → Bool
 can_leave a e t = (reaches a e.0 && not (is_dir e.1)) && (not (is_dir (node_at t e.0)) && is_dir (node_at t (parent e.0)))
@@ -82,23 +82,23 @@ effect_not a e t cant = effect_is a e t ∙ ap (λ b. cond b (edited e.0 e.1 t) 
 
 pub effect_other : (a : Area) (e : Written) (t : Tree) (q : Path) → (q ≡ e.0 → ⊥) → node_at (effect_in a e t) q ≡ node_at t q
 effect_other a e t q other = elim (cases_Bool (can_leave a e t)) [
-    | inl can ↦ ap (λ v. node_at v q) (effect_does a e t can) ∙ edited-apart e.0 e.1 t q other
-    | inr cant ↦ ap (λ v. node_at v q) (effect_not a e t cant)
-  ]
+  | inl can ↦ ap (λ v. node_at v q) (effect_does a e t can) ∙ edited-apart e.0 e.1 t q other
+  | inr cant ↦ ap (λ v. node_at v q) (effect_not a e t cant)
+]
 
 -- no child makes a directory or takes one away
 effect_dirs : (a : Area) (e : Written) (t : Tree) (q : Path) → is_dir (node_at (effect_in a e t) q) ≡ is_dir (node_at t q)
 unfolding can_leave
 effect_dirs a e t q = elim (cases_Bool (can_leave a e t)) [
-    | inr cant ↦ ap (λ v. is_dir (node_at v q)) (effect_not a e t cant)
-    | inl can ↦ elim (same_or_not q e.0) [
-        | inr other ↦ ap is_dir (effect_other a e t q other)
-        | inl same ↦
-          let front = and_parts _ _ (and_parts _ _ can).0 in
-          let rest = and_parts _ _ (and_parts _ _ can).1 in
-          ap is_dir (ap (λ v. node_at v q) (effect_does a e t can) ∙ ap (node_at (edited e.0 e.1 t)) same ∙ edited-here e.0 e.1 t) ∙ not_so _ front.1 ∙ sym (ap (λ x. is_dir (node_at t x)) same ∙ not_so _ rest.0)
-      ]
+  | inr cant ↦ ap (λ v. is_dir (node_at v q)) (effect_not a e t cant)
+  | inl can ↦ elim (same_or_not q e.0) [
+    | inr other ↦ ap is_dir (effect_other a e t q other)
+    | inl same ↦
+        let front = and_parts _ _ (and_parts _ _ can).0 in
+        let rest = and_parts _ _ (and_parts _ _ can).1 in
+        ap is_dir (ap (λ v. node_at v q) (effect_does a e t can) ∙ ap (node_at (edited e.0 e.1 t)) same ∙ edited-here e.0 e.1 t) ∙ not_so _ front.1 ∙ sym (ap (λ x. is_dir (node_at t x)) same ∙ not_so _ rest.0)
   ]
+]
 
 effects_dirs : (a : Area) (es : List Written) (t : Tree) (q : Path) → is_dir (node_at (in_turn (effect_in a) es t) q) ≡ is_dir (node_at t q)
 effects_dirs a [] t q = refl
@@ -106,9 +106,9 @@ effects_dirs a (e ∷ es) t q = effects_dirs a es (effect_in a e t) q ∙ effect
 
 pub run_dirs : (f : Script) (r : Roots) (c : Request) (t : Tree) (q : Path) → is_dir (node_at (run_request f r c t) q) ≡ is_dir (node_at t q)
 run_dirs f r c t q = elim (cases_Bool (is_dir (node_at t c.dir))) [
-    | inl dir ↦ ap (λ b. is_dir (node_at (cond b (in_turn (effect_in c.area) (writes f c (view_of r c t)) t) t) q)) dir ∙ effects_dirs c.area (writes f c (view_of r c t)) t q
-    | inr other ↦ ap (λ b. is_dir (node_at (cond b (in_turn (effect_in c.area) (writes f c (view_of r c t)) t) t) q)) other
-  ]
+  | inl dir ↦ ap (λ b. is_dir (node_at (cond b (in_turn (effect_in c.area) (writes f c (view_of r c t)) t) t) q)) dir ∙ effects_dirs c.area (writes f c (view_of r c t)) t q
+  | inr other ↦ ap (λ b. is_dir (node_at (cond b (in_turn (effect_in c.area) (writes f c (view_of r c t)) t) t) q)) other
+]
 
 pub runs_dirs : (f : Script) (r : Roots) (cs : List Request) (t : Tree) (q : Path) → is_dir (node_at (in_turn (run_request f r) cs t) q) ≡ is_dir (node_at t q)
 runs_dirs f r [] t q = refl
@@ -121,15 +121,15 @@ module _ (p b : Path → Bool) (above : (q : Path) → p q ≡ true → (p (pare
 
   effect_same : (a : Area) (e : Written) (t u : Tree) → SameOn p t u → SameDirs b t u → SameOn p (effect_in a e t) (effect_in a e u)
   effect_same a e t u same dirs q is = elim (same_or_not q e.0) [
-      | inr other ↦ effect_other a e t q other ∙ same q is ∙ sym (effect_other a e u q other)
-      | inl here ↦
+    | inr other ↦ effect_other a e t q other ∙ same q is ∙ sym (effect_other a e u q other)
+    | inl here ↦
         let can = can_leave_same a e t u same dirs (ap p (sym here) ∙ is) in
         let at_both : (v : Tree) → can_leave a e v ≡ true → node_at (effect_in a e v) q ≡ e.1 = λ v c. ap (λ w. node_at w q) (effect_does a e v c) ∙ ap (node_at (edited e.0 e.1 v)) here ∙ edited-here e.0 e.1 v in
         elim (cases_Bool (can_leave a e t)) [
           | inl does ↦ at_both t does ∙ sym (at_both u (sym can ∙ does))
           | inr doesnt ↦ ap (λ w. node_at w q) (effect_not a e t doesnt) ∙ same q is ∙ sym (ap (λ w. node_at w q) (effect_not a e u (sym can ∙ doesnt)))
         ]
-    ]
+  ]
 
   pub effects_same : (a : Area) (es : List Written) (t u : Tree) → SameOn p t u → SameDirs b t u → SameOn p (in_turn (effect_in a) es t) (in_turn (effect_in a) es u)
   effects_same a [] t u same dirs = same
@@ -142,23 +142,23 @@ effects_nothing (e ∷ es) t = effects_nothing es t
 
 pub run_nothing : (f : Script) (r : Roots) (c : Request) (t : Tree) → c.area ≡ Nothing → run_request f r c t ≡ t
 run_nothing f r c t none = elim (cases_Bool (is_dir (node_at t c.dir))) [
-    | inl dir ↦ ap (λ b. cond b (in_turn (effect_in c.area) (writes f c (view_of r c t)) t) t) dir ∙ ap (λ a. in_turn (effect_in a) (writes f c (view_of r c t)) t) none ∙ effects_nothing (writes f c (view_of r c t)) t
-    | inr isnt ↦ ap (λ b. cond b (in_turn (effect_in c.area) (writes f c (view_of r c t)) t) t) isnt
-  ]
+  | inl dir ↦ ap (λ b. cond b (in_turn (effect_in c.area) (writes f c (view_of r c t)) t) t) dir ∙ ap (λ a. in_turn (effect_in a) (writes f c (view_of r c t)) t) none ∙ effects_nothing (writes f c (view_of r c t)) t
+  | inr isnt ↦ ap (λ b. cond b (in_turn (effect_in c.area) (writes f c (view_of r c t)) t) t) isnt
+]
 
 -- what a child leaves
 effect_softly : (ps : List Path) (a : Area) → ((q : Path) → reaches a q ≡ true → is_listed q ps ≡ true) → (e : Written) (t : Tree) → IsSoftly ps t (effect_in a e t)
 unfolding can_leave
 effect_softly ps a within e t q = elim (cases_Bool (can_leave a e t)) [
-    | inr cant ↦ inl (ap (λ v. node_at v q) (effect_not a e t cant))
-    | inl can ↦ elim (same_or_not q e.0) [
-        | inr other ↦ inl (effect_other a e t q other)
-        | inl same ↦
-          let front = and_parts _ _ (and_parts _ _ can).0 in
-          let rest = and_parts _ _ (and_parts _ _ can).1 in
-          inr (within q (ap (reaches a) same ∙ front.0), ap (λ x. is_dir (node_at t x)) same ∙ not_so _ rest.0, ap is_dir (ap (λ v. node_at v q) (effect_does a e t can) ∙ ap (node_at (edited e.0 e.1 t)) same ∙ edited-here e.0 e.1 t) ∙ not_so _ front.1)
-      ]
+  | inr cant ↦ inl (ap (λ v. node_at v q) (effect_not a e t cant))
+  | inl can ↦ elim (same_or_not q e.0) [
+    | inr other ↦ inl (effect_other a e t q other)
+    | inl same ↦
+        let front = and_parts _ _ (and_parts _ _ can).0 in
+        let rest = and_parts _ _ (and_parts _ _ can).1 in
+        inr (within q (ap (reaches a) same ∙ front.0), ap (λ x. is_dir (node_at t x)) same ∙ not_so _ rest.0, ap is_dir (ap (λ v. node_at v q) (effect_does a e t can) ∙ ap (node_at (edited e.0 e.1 t)) same ∙ edited-here e.0 e.1 t) ∙ not_so _ front.1)
   ]
+]
 
 effects_softly : (ps : List Path) (a : Area) → ((q : Path) → reaches a q ≡ true → is_listed q ps ≡ true) → (es : List Written) (t : Tree) → IsSoftly ps t (in_turn (effect_in a) es t)
 effects_softly ps a within [] t = softly_same ps t
@@ -166,9 +166,9 @@ effects_softly ps a within (e ∷ es) t = softly_more ps t (effect_in a e t) _ (
 
 run_softly : (ps : List Path) (f : Script) (r : Roots) (c : Request) → ((q : Path) → reaches c.area q ≡ true → is_listed q ps ≡ true) → (t : Tree) → IsSoftly ps t (run_request f r c t)
 run_softly ps f r c within t = elim (cases_Bool (is_dir (node_at t c.dir))) [
-    | inl dir ↦ subst (λ b. IsSoftly ps t (cond b (in_turn (effect_in c.area) (writes f c (view_of r c t)) t) t)) (sym dir) (effects_softly ps c.area within (writes f c (view_of r c t)) t)
-    | inr other ↦ subst (λ b. IsSoftly ps t (cond b (in_turn (effect_in c.area) (writes f c (view_of r c t)) t) t)) (sym other) (softly_same ps t)
-  ]
+  | inl dir ↦ subst (λ b. IsSoftly ps t (cond b (in_turn (effect_in c.area) (writes f c (view_of r c t)) t) t)) (sym dir) (effects_softly ps c.area within (writes f c (view_of r c t)) t)
+  | inr other ↦ subst (λ b. IsSoftly ps t (cond b (in_turn (effect_in c.area) (writes f c (view_of r c t)) t) t)) (sym other) (softly_same ps t)
+]
 
 pub runs_softly : (ps : List Path) (f : Script) (r : Roots) (cs : List Request) → ((c : Request) → IsMember c cs → (q : Path) → reaches c.area q ≡ true → is_listed q ps ≡ true) → (t : Tree) → IsSoftly ps t (in_turn (run_request f r) cs t)
 runs_softly ps f r [] within t = softly_same ps t
@@ -178,8 +178,8 @@ runs_softly ps f r (c ∷ cs) within t = softly_more ps t (run_request f r c t) 
 effect_whole : (a : Area) (e : Written) (t : Tree) → IsWhole t → IsWhole (effect_in a e t)
 unfolding can_leave
 effect_whole a e t whole q stands = elim (cases_Bool (can_leave a e t)) [
-    | inr cant ↦ ap (λ v. node_at v (parent q)) (effect_not a e t cant) ∙ whole q (ap (λ v. is_some (node_at v q)) (sym (effect_not a e t cant)) ∙ stands)
-    | inl can ↦
+  | inr cant ↦ ap (λ v. node_at v (parent q)) (effect_not a e t cant) ∙ whole q (ap (λ v. is_some (node_at v q)) (sym (effect_not a e t cant)) ∙ stands)
+  | inl can ↦
       let rest = and_parts _ _ (and_parts _ _ can).1 in
       let no_dir : is_dir (node_at t e.0) ≡ false = not_so _ rest.0 in
       let keeps : (x : Path) → node_at t x ≡ Some node.Dir → node_at (effect_in a e t) x ≡ Some node.Dir = λ x dir. effect_other a e t x (λ same. true≢false (ap is_dir (sym dir) ∙ ap (λ y. is_dir (node_at t y)) same ∙ no_dir)) ∙ dir in
@@ -187,7 +187,7 @@ effect_whole a e t whole q stands = elim (cases_Bool (can_leave a e t)) [
         | inl here ↦ ap (λ y. node_at (effect_in a e t) (parent y)) here ∙ keeps (parent e.0) (dir_is _ rest.1)
         | inr other ↦ keeps (parent q) (whole q (ap is_some (sym (effect_other a e t q other)) ∙ stands))
       ]
-  ]
+]
 
 effects_whole : (a : Area) (es : List Written) (t : Tree) → IsWhole t → IsWhole (in_turn (effect_in a) es t)
 effects_whole a [] t whole = whole
@@ -195,9 +195,9 @@ effects_whole a (e ∷ es) t whole = effects_whole a es (effect_in a e t) (effec
 
 pub run_whole : (f : Script) (r : Roots) (c : Request) (t : Tree) → IsWhole t → IsWhole (run_request f r c t)
 run_whole f r c t whole = elim (cases_Bool (is_dir (node_at t c.dir))) [
-    | inl dir ↦ subst (λ b. IsWhole (cond b (in_turn (effect_in c.area) (writes f c (view_of r c t)) t) t)) (sym dir) (effects_whole c.area (writes f c (view_of r c t)) t whole)
-    | inr other ↦ subst (λ b. IsWhole (cond b (in_turn (effect_in c.area) (writes f c (view_of r c t)) t) t)) (sym other) whole
-  ]
+  | inl dir ↦ subst (λ b. IsWhole (cond b (in_turn (effect_in c.area) (writes f c (view_of r c t)) t) t)) (sym dir) (effects_whole c.area (writes f c (view_of r c t)) t whole)
+  | inr other ↦ subst (λ b. IsWhole (cond b (in_turn (effect_in c.area) (writes f c (view_of r c t)) t) t)) (sym other) whole
+]
 
 -- ---- as the world has it: edits of the area, where they can be made
 

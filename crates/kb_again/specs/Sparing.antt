@@ -6,7 +6,6 @@ use Rattle.kb_world.specs.Path.{Path, is_under}
 use Rattle.kb_world.specs.Public.{is_private}
 use Rattle.kb_world.specs.declared.child.Area.{Area}
 use Rattle.kb_world.specs.declared.child.Area.TheVariants.{Nothing, Under, Names}
-use Rattle.kb_world.specs.declared.child.Request.{Request}
 use Rattle.kb_world.specs.declared.roots.Roots.{Roots}
 use Rattle.kb_changes.specs.Groups.{runs_in}
 use Rattle.kb_changes.specs.Valid.{written_roots, is_kept_out, is_initrd}
