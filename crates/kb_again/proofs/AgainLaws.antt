@@ -1,5 +1,5 @@
 -- What a group of changes makes of a tree in which some of them are done already.
-use Rattle.std.proofs.Common.{◌≡◌, ◌⊎◌, inl, inr, ℕ, ◌≤◌, zero, suc, Bool, true, false, List, [], ◌∷◌, length, refl, sym, ap, ◌∙◌, arith, Some, None}
+use Rattle.std.proofs.Common.{◌≡◌, ◌⊎◌, inl, inr, ℕ, ◌≤◌, zero, suc, true, false, List, [], ◌∷◌, length, refl, sym, ap, ◌∙◌, arith, Some, None}
 use Rattle.std.specs.declared.option.Option.{Option}
 use Rattle.kb_again.proofs.PathLaws.{parent_cons, is_over, is_listed}
 use Rattle.kb_world.specs.declared.tree.Node.{Node}
@@ -21,9 +21,11 @@ solid_same ps old new r same solid = record {
 
 -- a directory that holds what is solid doesn't go
 holds_on : (ps : List Path) (old new : Standing) (q : Path) → Cleared ps old new → Holds ps old q → Goes ps old new q → ⊥
-holds_on ps old new q cleared holds goes = holds.solid.stands (sym (solid_kept ps old new holds.path cleared holds.solid) ∙ goes.bare holds.path holds.under)
+holds_on ps old new q cleared holds goes =
+    holds.solid.stands (sym (solid_kept ps old new holds.path cleared holds.solid) ∙ goes.bare holds.path holds.under)
 
-pub cleared_again : (ps : List Path) (old new mid end : Standing) → Cleared ps old new → Cleared ps mid end → Between old new mid → (q : Path) → end q ≡ new q
+pub cleared_again : (ps : List Path) (old new mid end : Standing) → Cleared ps old new → Cleared ps mid end → Between old new mid
+    → (q : Path) → end q ≡ new q
 cleared_again ps old new mid end first second between q =
     elim (first.each q) [
       | inl same ↦
@@ -59,7 +61,8 @@ length_parent : (n : List ℕ) (ns : Path) → length (parent (n ∷ ns)) ≡ le
 length_parent n [] = refl
 length_parent n (m ∷ ns) = ap length (parent_cons n m ns) ∙ ap suc (length_parent m ns)
 
-climb_by : (P : Path → Type 0) → P [] → ((n : List ℕ) (ns : Path) → P (parent (n ∷ ns)) → P (n ∷ ns)) → (k : ℕ) (q : Path) → length q ≤ k → P q
+climb_by : (P : Path → Type 0) → P [] → ((n : List ℕ) (ns : Path) → P (parent (n ∷ ns)) → P (n ∷ ns)) → (k : ℕ) (q : Path) → length q ≤ k
+    → P q
 climb_by P root step k [] le = root
 climb_by P root step zero (n ∷ ns) le = absurd (omega arith)
 climb_by P root step (suc k) (n ∷ ns) le = step n ns (climb_by P root step k (parent (n ∷ ns)) (omega (arith, length_parent n ns)))
@@ -67,38 +70,17 @@ climb_by P root step (suc k) (n ∷ ns) le = step n ns (climb_by P root step k (
 pub climb : (P : Path → Type 0) → P [] → ((n : List ℕ) (ns : Path) → P (parent (n ∷ ns)) → P (n ∷ ns)) → (q : Path) → P q
 climb P root step q = climb_by P root step (length q) q (omega arith)
 
-root_made : (ps : List Path) (old new : Standing) → is_listed [] ps ≡ false → Made ps old new → new [] ≡ old []
-root_made ps old new out made = elim (made.each []) [ inl same ↦ same | inr makes ↦ absurd (let a = makes.listed in let b = out in cc) ]
-
-pub made_again : (ps : List Path) (old new mid end : Standing) → is_listed [] ps ≡ false → Made ps old new → Made ps mid end → Between old new mid → (q : Path) → end q ≡ new q
-made_again ps old new mid end out first second between =
-    climb (λ q. end q ≡ new q)
-    (root_made ps mid end out second ∙ elim (between []) [ inl t ↦ t ∙ sym (root_made ps old new out first) | inr n ↦ n ])
-    (λ n ns up.
-    let q : Path = n ∷ ns in
-    elim (first.each q) [
-      | inl same ↦
-          let here : mid q ≡ new q = elim (between q) [ inl t ↦ t ∙ sym same | inr m ↦ m ] in
-          elim (second.each q) [
-            | inl kept ↦ kept ∙ here
-            | inr makes ↦ absurd (first.full q makes.listed (sym up ∙ makes.above) (sym here ∙ makes.was))
-          ]
-      | inr now ↦ elim (second.each q) [
-        | inr makes ↦ makes.made ∙ sym now.made
-        | inl kept ↦ elim (between q) [
-          | inr m ↦ kept ∙ m
-          | inl t ↦ absurd (second.full q now.listed (up ∙ now.above) (kept ∙ t ∙ now.was))
-        ]
-      ]
-    ])
-
 -- What is known of a tree in which all directories are made, and those of a second list perhaps taken away.
 -- end: without those of the second list; mid: any tree in between, in which some may still have to be made
 pub record IsReached (first dirs : List Path) (whole end mid : Standing) : Type 0 where
-  pub each : (q : Path) → ((mid q ≡ whole q) ⊎ (mid q ≡ end q)) ⊎ ((is_listed q dirs ≡ true) × (whole q ≡ Some node.Dir) × (mid q ≡ None) × (whole (parent q) ≡ Some node.Dir))
-  pub held : (q : Path) → is_listed q first ≡ true → mid q ≡ Some node.Dir → ((is_listed q dirs ≡ true) × (whole (parent q) ≡ Some node.Dir)) ⊎ Holds first mid q
+  pub each : (q : Path)
+      → ((mid q ≡ whole q) ⊎ (mid q ≡ end q)) ⊎
+      ((is_listed q dirs ≡ true) × (whole q ≡ Some node.Dir) × (mid q ≡ None) × (whole (parent q) ≡ Some node.Dir))
+  pub held : (q : Path) → is_listed q first ≡ true → mid q ≡ Some node.Dir
+      → ((is_listed q dirs ≡ true) × (whole (parent q) ≡ Some node.Dir)) ⊎ Holds first mid q
   pub full : (q : Path) → is_listed q dirs ≡ true → whole (parent q) ≡ Some node.Dir → whole q ≡ None → ⊥
-  pub ends : (q : Path) → (end q ≡ whole q) ⊎ ((whole q ≡ Some node.Dir) × (end q ≡ None) × ((r : Path) → is_over q r ≡ true → end r ≡ None))
+  pub ends : (q : Path)
+      → (end q ≡ whole q) ⊎ ((whole q ≡ Some node.Dir) × (end q ≡ None) × ((r : Path) → is_over q r ≡ true → end r ≡ None))
 
 module _ (first dirs : List Path) (whole end mid : Standing) (reached : IsReached first dirs whole end mid) where
   end_dir : (q : Path) → end q ≡ Some node.Dir → whole q ≡ Some node.Dir
@@ -112,7 +94,8 @@ module _ (first dirs : List Path) (whole end mid : Standing) (reached : IsReache
 
   module _ (bare done : Standing) (clears : Cleared first mid bare) (makes : Made dirs bare done) where
     -- one that isn't made again stood in one that is gone
-    unmade : (q : Path) → is_over (parent q) q ≡ true → (done (parent q) ≡ whole (parent q)) ⊎ (done (parent q) ≡ end (parent q)) → is_listed q dirs ≡ true → whole (parent q) ≡ Some node.Dir → done q ≡ None → end q ≡ None
+    unmade : (q : Path) → is_over (parent q) q ≡ true → (done (parent q) ≡ whole (parent q)) ⊎ (done (parent q) ≡ end (parent q))
+        → is_listed q dirs ≡ true → whole (parent q) ≡ Some node.Dir → done q ≡ None → end q ≡ None
     unmade q below up listed above none = elim up [
       | inl w ↦ absurd (makes.full q listed (w ∙ above) none)
       | inr e ↦ elim (reached.ends (parent q)) [
@@ -136,10 +119,12 @@ module _ (first dirs : List Path) (whole end mid : Standing) (reached : IsReache
       ]
     ]
 
-    reached_step : (q : Path) → is_over (parent q) q ≡ true → (done (parent q) ≡ whole (parent q)) ⊎ (done (parent q) ≡ end (parent q)) → (done q ≡ whole q) ⊎ (done q ≡ end q)
+    reached_step : (q : Path) → is_over (parent q) q ≡ true → (done (parent q) ≡ whole (parent q)) ⊎ (done (parent q) ≡ end (parent q))
+        → (done q ≡ whole q) ⊎ (done q ≡ end q)
     reached_step q below up = elim (makes.each q) [
       | inr m ↦
-          let above : whole (parent q) ≡ Some node.Dir = elim up [ inl w ↦ sym w ∙ m.above | inr e ↦ end_dir (parent q) (sym e ∙ m.above) ] in
+          let above : whole (parent q) ≡ Some node.Dir =
+          elim up [ inl w ↦ sym w ∙ m.above | inr e ↦ end_dir (parent q) (sym e ∙ m.above) ] in
           inl (m.made ∙ sym (whole_listed q m.listed above m.was))
       | inl same ↦ elim (clears.each q) [
         | inl kept ↦ elim (reached.each q) [
@@ -155,7 +140,8 @@ module _ (first dirs : List Path) (whole end mid : Standing) (reached : IsReache
       ]
     ]
 
-    pub reached_again : is_listed [] first ≡ false → is_listed [] dirs ≡ false → ((n : List ℕ) (ns : Path) → is_over (parent (n ∷ ns)) (n ∷ ns) ≡ true) → Between whole end done
+    pub reached_again : is_listed [] first ≡ false → is_listed [] dirs ≡ false
+        → ((n : List ℕ) (ns : Path) → is_over (parent (n ∷ ns)) (n ∷ ns) ≡ true) → Between whole end done
     reached_again no_first no_dirs below = climb (λ q. (done q ≡ whole q) ⊎ (done q ≡ end q))
         (elim (makes.each []) [
           | inr m ↦ absurd (let a = m.listed in cc)
@@ -168,29 +154,3 @@ module _ (first dirs : List Path) (whole end mid : Standing) (reached : IsReache
           ]
         ])
         (λ n ns up. reached_step (n ∷ ns) (below n ns) up)
-
--- Trees that agree at the open paths agree there after directories are taken away, where a directory that stays holds
--- something open that doesn't go.
-abbrev pub SameOpen : (Path → Bool) → Standing → Standing → Type 0
-SameOpen p look other = (q : Path) → p q ≡ true → look q ≡ other q
-
-abbrev pub HoldsOpen : (Path → Bool) → List Path → Standing → Type 0
-HoldsOpen p ps old = (q : Path) → p q ≡ true → Holds ps old q → (r : Path) × (is_over q r ≡ true) × (p r ≡ true) × Solid ps old r
-
-open_stays : (p : Path → Bool) (ps : List Path) (old new old' new' : Standing) → Cleared ps old new → Cleared ps old' new' → SameOpen p old old' → HoldsOpen p ps old' → (q : Path) → p q ≡ true → Goes ps old new q → new' q ≡ old' q → ⊥
-open_stays p ps old new old' new' c c' same open_ones q is goes kept =
-    let w = open_ones q is (c'.full q goes.listed (kept ∙ sym (same q is) ∙ goes.was)) in
-    let solid = solid_same ps old' old w.0 (same w.0 w.2) w.3 in
-    solid.stands (sym (solid_kept ps old new w.0 c solid) ∙ goes.bare w.0 w.1)
-
-pub cleared_open : (p : Path → Bool) (ps : List Path) (old new old' new' : Standing) → Cleared ps old new → Cleared ps old' new' → SameOpen p old old' → HoldsOpen p ps old → HoldsOpen p ps old' → SameOpen p new new'
-cleared_open p ps old new old' new' c c' same open_old open_old' q is = elim (c.each q) [
-  | inl kept ↦ elim (c'.each q) [
-    | inl kept' ↦ kept ∙ same q is ∙ sym kept'
-    | inr goes' ↦ absurd (open_stays p ps old' new' old new c' c (λ r o. sym (same r o)) open_old q is goes' kept)
-  ]
-  | inr goes ↦ elim (c'.each q) [
-    | inl kept' ↦ absurd (open_stays p ps old new old' new' c c' same open_old' q is goes kept')
-    | inr goes' ↦ goes.gone ∙ sym goes'.gone
-  ]
-]

@@ -11,7 +11,7 @@ use Rattle.kb_changes.specs.declared.change.Change.TheVariants.{Dir, Put, Drop, 
 use Rattle.kb_again.specs.Sparing.{areas_of}
 use Rattle.kb_again.specs.Within.{IsWithinNext}
 use Rattle.kb_again.proofs.BetweenLaws.{IsCutNext, areas_in}
-use Rattle.kb_again.proofs.EditLaws.{dir_is, dir_test}
+use Rattle.kb_again.proofs.EditLaws.{dir_is}
 use Rattle.kb_again.proofs.FactLaws.{known_valid}
 use Rattle.kb_again.proofs.Facts.{lists_of}
 use Rattle.kb_again.proofs.Kept.{IsWhole}
@@ -25,9 +25,6 @@ use Rattle.kb_again.proofs.WriteLaws.{run_is}
 
 pub whole_of : (t : Tree) → IsFormed t → IsWhole t
 whole_of t formed q stands = dir_is (node_at t (parent q)) (formed q stands)
-
-pub formed_of : (t : Tree) → IsWhole t → IsFormed t
-formed_of t whole q stands = dir_test (node_at t (parent q)) (whole q stands)
 
 -- ---- doing them
 
@@ -74,7 +71,8 @@ either_whole r f c w v whole (inr now) = subst IsWhole (sym (now ∙ change_same
 pub cut_there : (r : Roots) (f : Script) (back : List Change) (w v : Tree) → IsWhole w → IsWithinNext r f back w v → IsCutThere r f back w v
 cut_there r f [] w v whole within = record { cut = within; whole = subst IsWhole (sym within) whole }
 cut_there r f (Dir path ∷ back) w v whole within = record { cut = within; whole = either_whole r f (Dir path) w v whole within }
-cut_there r f (Put name number target ∷ back) w v whole within = record { cut = within; whole = either_whole r f (Put name number target) w v whole within }
+cut_there r f (Put name number target ∷ back) w v whole within =
+    record { cut = within; whole = either_whole r f (Put name number target) w v whole within }
 cut_there r f (Drop path ∷ back) w v whole within = record { cut = within; whole = either_whole r f (Drop path) w v whole within }
 cut_there r f (DropDir path ∷ back) w v whole within = record { cut = within; whole = either_whole r f (DropDir path) w v whole within }
 cut_there r f (Wipe path ∷ back) w v whole within = record { cut = within.1; whole = whole_of v within.0 }
@@ -85,8 +83,10 @@ cut_there r f (Run request ∷ back) w v whole within = record { cut = within.ea
 pub steps_are : (r : Roots) (cs : List Change) → is_valid r cs ≡ true → map (step_of r) cs ≡ steps_of r (lists_of cs)
 steps_are r cs valid = in_groups r cs (known_valid r cs valid).order
 
-pub done_is : (r : Roots) (f : Script) (cs : List Change) (t : Tree) → is_valid r cs ≡ true → done r f cs t ≡ do_steps f r (steps_of r (lists_of cs)) t
+pub done_is : (r : Roots) (f : Script) (cs : List Change) (t : Tree) → is_valid r cs ≡ true
+    → done r f cs t ≡ do_steps f r (steps_of r (lists_of cs)) t
 done_is r f cs t valid = done_same r f cs t ∙ ap (λ xs. do_steps f r xs t) (steps_are r cs valid)
 
 pub done_whole : (r : Roots) (f : Script) (cs : List Change) (t : Tree) → IsWhole t → IsWhole (done r f cs t)
-done_whole r f cs t whole = subst IsWhole (sym (done_same r f cs t)) (turn_whole (do_step f r) (step_whole f r) (map (step_of r) cs) t whole)
+done_whole r f cs t whole =
+    subst IsWhole (sym (done_same r f cs t)) (turn_whole (do_step f r) (step_whole f r) (map (step_of r) cs) t whole)

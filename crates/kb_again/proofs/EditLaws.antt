@@ -45,7 +45,9 @@ none_in : (p : Path) (ks : List Path) → list_any (is_above p) ks ≡ false →
 none_in p [] h r below = refl
 none_in p (k ∷ ks) h r below = elim (same_or_not r k) [
   | inl same ↦ absurd (true≢false (sym (ap (λ b. b || list_any (is_above p) ks) (ap (is_above p) (sym same) ∙ below)) ∙ h))
-  | inr other ↦ ap (λ b. b || is_listed r ks) (same_path-false r k other) ∙ none_in p ks (elim (cases_Bool (is_above p k)) [ inl here ↦ absurd (true≢false (sym (ap (λ b. b || list_any (is_above p) ks) here) ∙ h)) | inr not_here ↦ sym (ap (λ b. b || list_any (is_above p) ks) not_here) ∙ h ]) r below
+  | inr other ↦
+      ap (λ b. b || is_listed r ks) (same_path-false r k other)
+      ∙ none_in p ks (elim (cases_Bool (is_above p k)) [ inl here ↦ absurd (true≢false (sym (ap (λ b. b || list_any (is_above p) ks) here) ∙ h)) | inr not_here ↦ sym (ap (λ b. b || list_any (is_above p) ks) not_here) ∙ h ]) r below
 ]
 
 pub record Empty (t : Tree) (p : Path) : Type 0 where
@@ -60,8 +62,11 @@ none_here : (o : Option Node) → is_some o ≡ false → o ≡ None
 none_here None h = refl
 none_here (Some n) h = absurd (true≢false h)
 
-pub empty_or_filled : (t : Tree) (p : Path) → ((list_any (is_above p) (keys t) ≡ false) × Empty t p) ⊎ ((list_any (is_above p) (keys t) ≡ true) × Filled t p)
+pub empty_or_filled : (t : Tree) (p : Path)
+    → ((list_any (is_above p) (keys t) ≡ false) × Empty t p) ⊎ ((list_any (is_above p) (keys t) ≡ true) × Filled t p)
 empty_or_filled t p = elim (cases_Bool (list_any (is_above p) (keys t))) [
-  | inl some ↦ let w = witness_in p (keys t) some in inr (some, record { path = w.0; below = w.1; stands = some_stands _ (contains_key-keys t w.0 ∙ w.2) })
+  | inl some ↦
+      let w = witness_in p (keys t) some in
+      inr (some, record { path = w.0; below = w.1; stands = some_stands _ (contains_key-keys t w.0 ∙ w.2) })
   | inr none ↦ inl (none, record { none = λ r below. none_here _ (contains_key-keys t r ∙ none_in p (keys t) none r below) })
 ]

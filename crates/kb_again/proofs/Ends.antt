@@ -1,4 +1,4 @@
--- The changes of an intent, on trees. A change does nothing where its condition isn't met.
+-- What changes do to trees, and what a group of them leaves at each path. A change does nothing where its condition isn't met.
 use Rattle.std.specs.Prelude.{◌≡◌, ◌⊎◌, Bool, true, false, not, ◌&&◌, List, [], ◌∷◌, is_some, cond, None}
 use Rattle.std.specs.List.{list_any}
 use Rattle.kb_world.specs.Tree.{node_at, with_node, without, edited, is_dir, is_leaf, Tree}
@@ -22,7 +22,7 @@ drop_dir_at p t = cond (is_dir (node_at t p) && not (list_any (λ q. is_below q 
 abbrev pub make_dir_at : Path → Tree → Tree
 make_dir_at p t = cond (not (is_some (node_at t p)) && is_dir (node_at t (parent p))) (with_node p node.Dir t) t
 
--- a staged place and a target
+-- a staged path and a target
 abbrev pub Move : Type 0
 Move = Path × Path
 
@@ -64,7 +64,7 @@ abbrev pub IsMember : {A : Type 0} → A → List A → Type 0
 IsMember x [] = ⊥
 IsMember x (y ∷ ys) = (x ≡ y) ⊎ IsMember x ys
 
--- two moves that have no place in common
+-- two moves that have no path in common
 pub record Disjoint (m n : Move) : Type 0 where
   pub sources : m.0 ≡ n.0 → ⊥
   pub source_target : m.0 ≡ n.1 → ⊥
@@ -73,9 +73,11 @@ pub record Disjoint (m n : Move) : Type 0 where
 
 -- some of the moves of a list are done
 pub record Moved (ms : List Move) (old new : Standing) : Type 0 where
-  pub each : (q : Path) → (new q ≡ old q) ⊎ ((is_dir (old q) ≡ false) × (((m : Move) × IsMember m ms × (m.0 ≡ q) × (new q ≡ None)) ⊎ ((m : Move) × IsMember m ms × (m.1 ≡ q) × (is_leaf (new q) ≡ true))))
+  pub each : (q : Path)
+      → (new q ≡ old q) ⊎
+      ((is_dir (old q) ≡ false) × (((m : Move) × IsMember m ms × (m.0 ≡ q) × (new q ≡ None)) ⊎ ((m : Move) × IsMember m ms × (m.1 ≡ q) × (is_leaf (new q) ≡ true))))
 
--- two moves of a list are one, or have no place in common
+-- two moves of a list are one, or have no path in common
 pub record MovesApart (ms : List Move) : Type 0 where
   pub own : (m : Move) → IsMember m ms → m.0 ≡ m.1 → ⊥
   pub two : (m n : Move) → IsMember m ms → IsMember n ms → (m ≡ n) ⊎ Disjoint m n

@@ -76,7 +76,8 @@ targets_are (Run request ∷ cs) = targets_are cs
 
 pub staged_are : (r : Roots) (cs : List Change) → staged_in r cs ≡ map (staged_at r) (puts_in cs)
 staged_are r [] = refl
-staged_are r (Put name number target ∷ cs) = ap (λ l. staged_at r (record { root = name; number = number; target = target }) ∷ l) (staged_are r cs)
+staged_are r (Put name number target ∷ cs) =
+    ap (λ l. staged_at r (record { root = name; number = number; target = target }) ∷ l) (staged_are r cs)
 staged_are r (DropDir path ∷ cs) = staged_are r cs
 staged_are r (Dir path ∷ cs) = staged_are r cs
 staged_are r (Drop path ∷ cs) = staged_are r cs
@@ -88,7 +89,8 @@ mapped_member h [] c in_it = absurd in_it
 mapped_member h (d ∷ cs) c (inl same) = listed_first (h c) (h d) (map h cs) (ap h same)
 mapped_member h (d ∷ cs) c (inr later) = listed_more (h c) (h d) (map h cs) (mapped_member h cs c later)
 
-different : (r : Roots) (cs : List StagedPut) → all_differ (map (λ c. c.target) cs) ≡ true → all_differ (map (staged_at r) cs) ≡ true → AreDifferent r cs
+different : (r : Roots) (cs : List StagedPut) → all_differ (map (λ c. c.target) cs) ≡ true → all_differ (map (staged_at r) cs) ≡ true
+    → AreDifferent r cs
 different r [] h k = tt
 different r (c ∷ cs) h k =
     let apart = and_parts _ _ h in
@@ -145,9 +147,11 @@ listed_either q (p ∷ ps) qs h = elim (listed_cons q p (ps ++ qs) h) [
 ]
 
 -- each path that a change speaks of may be changed
-changeable : (r : Roots) (cs : List Change) → ArePlaced r cs → (q : Path) → is_listed q (changed_paths (lists_of cs)) ≡ true → is_changeable r q ≡ true
+changeable : (r : Roots) (cs : List Change) → ArePlaced r cs → (q : Path) → is_listed q (changed_paths (lists_of cs)) ≡ true
+    → is_changeable r q ≡ true
 changeable r cs w q h =
-    let test : (ps : List Path) → AreChangeable r ps → is_listed q ps ≡ true → is_changeable r q ≡ true = λ ps all listed. of_all (is_changeable r) ps all q listed in
+    let test : (ps : List Path) → AreChangeable r ps → is_listed q ps ≡ true → is_changeable r q ≡ true =
+    λ ps all listed. of_all (is_changeable r) ps all q listed in
     let s = lists_of cs in
     elim (listed_either q s.drops (s.wipes ++ (s.first ++ (s.dirs ++ (targets s ++ s.second)))) h) [
       | inl is ↦ test (drops_in cs) w.drops is
@@ -198,10 +202,12 @@ untouched_is r q = regroup (is_over (child r.dkms (codes ".intent")) q) (is_unde
 version_dir : (r : Roots) (m v : List ℕ) → is_key (key_of m v) ≡ true → is_version_dir r (child (child r.dkms m) v) ≡ true
 version_dir r m v keyed =
     let is : child (child r.dkms m) v ≡ r.dkms ++ m ∷ v ∷ [] = append_assoc r.dkms (m ∷ []) (v ∷ []) in
-    ap (is_version_dir r) is ∙ ap (λ b. b && are_version_names (drop (length r.dkms) (r.dkms ++ m ∷ v ∷ []))) (under-append r.dkms (m ∷ v ∷ []))
+    ap (is_version_dir r) is
+    ∙ ap (λ b. b && are_version_names (drop (length r.dkms) (r.dkms ++ m ∷ v ∷ []))) (under-append r.dkms (m ∷ v ∷ []))
     ∙ ap are_version_names (drop-front r.dkms (m ∷ v ∷ [])) ∙ keyed
 
-scratch_wiped : (r : Roots) (cs : List Change) → list_all (is_scratch_wiped r (wipes_in cs)) (drop_dirs_in cs) ≡ true → (m v : List ℕ) → is_key (key_of m v) ≡ true
+scratch_wiped : (r : Roots) (cs : List Change) → list_all (is_scratch_wiped r (wipes_in cs)) (drop_dirs_in cs) ≡ true → (m v : List ℕ)
+    → is_key (key_of m v) ≡ true
     → is_listed (child (child r.dkms m) v) (drop_dirs_in cs) ≡ true → is_listed (build_at r m v) (wipes_in cs) ≡ true
 scratch_wiped r cs h m v keyed listed =
     elim (or_cases _ _ (of_all (is_scratch_wiped r (wipes_in cs)) (drop_dirs_in cs) h (child (child r.dkms m) v) listed)) [
@@ -235,7 +241,8 @@ kernel_of (Some k) h = (k, refl)
 abbrev IsRunOf : Roots → List Path → Request → Type 0
 IsRunOf r drops c = (c.area ≡ Nothing) ⊎ ((k : List ℕ) × IsIndexRun r drops c k)
 
-fit_area : (r : Roots) (drops : List Path) (c : Request) (area : Area) → c.area ≡ area → is_fit_area r drops c area ≡ true → IsRunOf r drops c
+fit_area : (r : Roots) (drops : List Path) (c : Request) (area : Area) → c.area ≡ area → is_fit_area r drops c area ≡ true
+    → IsRunOf r drops c
 fit_area r drops c Nothing e h = inl e
 fit_area r drops c (Under directory) e h = absurd (true≢false (sym h))
 fit_area r drops c (Names directory names) e h =
@@ -251,11 +258,14 @@ fit_area r drops c (Names directory names) e h =
         area = e ∙ (λ i. Names (dir_is i) (same_names names index_names h4.1 i));
         dir = same_path-true c.dir r.base h3.1;
         seen = same_listed c.seen (directory ∷ []) h2.1 ∙ ap (λ d. d ∷ []) dir_is;
-        dropped = λ n in_it. ap (λ d. is_listed (child d n) drops) (sym dir_is) ∙ each_name (λ name. is_among_paths drops (child directory name)) index_names h1.1 n in_it;
+        dropped =
+            λ n in_it. ap (λ d. is_listed (child d n) drops) (sym dir_is)
+            ∙ each_name (λ name. is_among_paths drops (child directory name)) index_names h1.1 n in_it;
       },
     )
 
-fit_runs : (r : Roots) (drops : List Path) (runs : List Request) → list_all (is_fit_run r drops) runs ≡ true → (c : Request) → IsMember c runs → IsRunOf r drops c
+fit_runs : (r : Roots) (drops : List Path) (runs : List Request) → list_all (is_fit_run r drops) runs ≡ true → (c : Request)
+    → IsMember c runs → IsRunOf r drops c
 fit_runs r drops [] h c in_it = absurd in_it
 fit_runs r drops (d ∷ runs) h c (inl same) = subst (IsRunOf r drops) (sym same) (fit_area r drops d d.area refl (and_parts _ _ h).0)
 fit_runs r drops (d ∷ runs) h c (inr later) = fit_runs r drops runs (and_parts _ _ h).1 c later
@@ -284,21 +294,29 @@ known_valid r cs h =
     let c2 = and_parts (none_under (wipes_in cs) (targets_in cs)) (none_among (drops_in cs) (targets_in cs)) c3.0 in
     let at : (c : StagedPut) → IsMember c (puts_in cs) → is_listed c.target (targets_in cs) ≡ true = λ c in_it.
     ap (is_listed c.target) (targets_are cs) ∙ mapped_member (λ e. e.target) (puts_in cs) c in_it in
-    let may : (q : Path) → is_listed q (changed_paths (lists_of cs)) ≡ true → IsChangeable r q = λ q listed. changeable_parts r q (changeable r cs (placed r cs well_placed.1) q listed) in
+    let may : (q : Path) → is_listed q (changed_paths (lists_of cs)) ≡ true → IsChangeable r q =
+    λ q listed. changeable_parts r q (changeable r cs (placed r cs well_placed.1) q listed) in
     record {
       order = first.0;
       facts = record {
         first_order = upward (first_drop_dirs cs) first.1;
         second_order = upward (second_drop_dirs cs) second.1;
         dirs_order = downward (dirs_in cs) last.1;
-        target_not_wiped = λ c in_it is. no _ (of_all (λ path. not (list_any (is_under path) (wipes_in cs))) (targets_in cs) c2.0 c.target (at c in_it)) is;
-        target_not_dropped = λ c in_it is. no _ (of_all (λ path. not (is_among_paths (drops_in cs) path)) (targets_in cs) c2.1 c.target (at c in_it)) is;
-        target_not_second = λ c in_it is. no _ (of_all (λ path. not (is_among_paths (second_drop_dirs cs) path)) (targets_in cs) c3.1 c.target (at c in_it)) is;
+        target_not_wiped =
+            λ c in_it is. no _ (of_all (λ path. not (list_any (is_under path) (wipes_in cs))) (targets_in cs) c2.0 c.target (at c in_it)) is;
+        target_not_dropped =
+            λ c in_it is. no _ (of_all (λ path. not (is_among_paths (drops_in cs) path)) (targets_in cs) c2.1 c.target (at c in_it)) is;
+        target_not_second =
+            λ c in_it is. no _
+            (of_all (λ path. not (is_among_paths (second_drop_dirs cs) path)) (targets_in cs) c3.1 c.target (at c in_it)) is;
         different = different r (puts_in cs) (ap all_differ (sym (targets_are cs)) ∙ c4.1) (ap all_differ (sym (staged_are r cs)) ∙ c5.1);
         dir_not_wiped = λ q listed is. no _ (of_all (λ path. not (list_any (is_under path) (wipes_in cs))) (dirs_in cs) c6.1 q listed) is;
         second_not_below = λ q x listed below later.
-            no _ (of_all (λ path. not (list_any (is_below path) (first_drop_dirs cs))) (second_drop_dirs cs) c7.1 x later) (below_some (first_drop_dirs cs) q x listed below);
-        build_wiped = λ m v keyed either. scratch_wiped r cs c8.1 m v keyed (elim either [ inl listed ↦ in_first cs _ listed | inr listed ↦ in_second cs _ listed ]);
+            no _ (of_all (λ path. not (list_any (is_below path) (first_drop_dirs cs))) (second_drop_dirs cs) c7.1 x later)
+            (below_some (first_drop_dirs cs) q x listed below);
+        build_wiped =
+            λ m v keyed either. scratch_wiped r cs c8.1 m v keyed
+            (elim either [ inl listed ↦ in_first cs _ listed | inr listed ↦ in_second cs _ listed ]);
         below_root = λ q listed. above_one (written_roots r) q (may q listed).below;
         not_inside = λ q listed is.
             elim (or_cases (is_kept_out r q) (is_under q (new_intent_path r)) (sym (untouched_is r q) ∙ is)) [

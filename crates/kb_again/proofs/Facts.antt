@@ -65,7 +65,8 @@ abbrev pub move_of : Roots → StagedPut → Move
 move_of r c = (staged_at r c, c.target)
 
 abbrev pub groups_of : Roots → Lists → Groups
-groups_of r s = record { drops = s.drops; wipes = s.wipes; first = s.first; dirs = s.dirs; puts = map (move_of r) s.puts; second = s.second }
+groups_of r s =
+    record { drops = s.drops; wipes = s.wipes; first = s.first; dirs = s.dirs; puts = map (move_of r) s.puts; second = s.second }
 
 abbrev pub targets : Lists → List Path
 targets s = map (λ c. c.target) s.puts
@@ -73,7 +74,7 @@ targets s = map (λ c. c.target) s.puts
 abbrev pub changed_paths : Lists → List Path
 changed_paths s = s.drops ++ (s.wipes ++ (s.first ++ (s.dirs ++ (targets s ++ s.second))))
 
--- ---- places
+-- ---- paths
 
 abbrev pub all_roots : Roots → List Path
 all_roots r = r.boot ∷ based_roots r
@@ -112,10 +113,11 @@ is_beside r q = is_initrd r q || list_any (is_above q) (written_roots r)
 
 -- ---- valid
 
--- no two have one target or one staged place
+-- no two have one target or one staged path
 abbrev pub AreDifferent : Roots → List StagedPut → Type 0
 AreDifferent r [] = Unit {0}
-AreDifferent r (c ∷ cs) = ((d : StagedPut) → IsMember d cs → (c.target ≡ d.target → ⊥) × (staged_at r c ≡ staged_at r d → ⊥)) × AreDifferent r cs
+AreDifferent r (c ∷ cs) =
+    ((d : StagedPut) → IsMember d cs → (c.target ≡ d.target → ⊥) × (staged_at r c ≡ staged_at r d → ⊥)) × AreDifferent r cs
 
 -- depmod's request for a kernel
 pub record IsIndexRun (r : Roots) (drops : List Path) (c : Request) (k : List ℕ) : Type 0 where
@@ -135,8 +137,10 @@ pub record IsValidUnder (r : Roots) (s : Lists) : Type 0 where
   pub dir_not_wiped : (q : Path) → is_listed q s.dirs ≡ true → is_under_one s.wipes q ≡ true → ⊥
   pub second_not_below : (q x : Path) → is_listed q s.first ≡ true → is_above q x ≡ true → is_listed x s.second ≡ true → ⊥
   pub build_wiped : (m v : List ℕ) → is_key (key_of m v) ≡ true
-      → (is_listed (child (child r.dkms m) v) s.first ≡ true) ⊎ (is_listed (child (child r.dkms m) v) s.second ≡ true) → is_listed (build_at r m v) s.wipes ≡ true
-  pub below_root : (q : Path) → is_listed q (changed_paths s) ≡ true → (x : Path) × (is_listed x (written_roots r) ≡ true) × (is_above x q ≡ true)
+      → (is_listed (child (child r.dkms m) v) s.first ≡ true) ⊎ (is_listed (child (child r.dkms m) v) s.second ≡ true) → is_listed
+      (build_at r m v) s.wipes ≡ true
+  pub below_root : (q : Path) → is_listed q (changed_paths s) ≡ true
+      → (x : Path) × (is_listed x (written_roots r) ≡ true) × (is_above x q ≡ true)
   pub not_inside : (q : Path) → is_listed q (changed_paths s) ≡ true → is_under_one (untouched r) q ≡ true → ⊥
   pub no_initrd : (q : Path) → is_listed q (changed_paths s) ≡ true → is_initrd r q ≡ true → ⊥
   pub runs : (c : Request) → IsMember c s.runs → (c.area ≡ Nothing) ⊎ ((k : List ℕ) × IsIndexRun r s.drops c k)

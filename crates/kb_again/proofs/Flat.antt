@@ -1,4 +1,4 @@
--- The changes of an intent as one list.
+-- All groups as one list.
 use Rattle.std.specs.Prelude.{List, ◌++◌, map}
 use Rattle.kb_world.specs.Tree.{Tree}
 use Rattle.kb_world.specs.Path.{Path}
@@ -28,4 +28,6 @@ put_of m = to_put m.0 m.1
 
 -- the groups in their order
 abbrev pub acts_of : Groups → List Act
-acts_of g = map to_drop g.drops ++ (map to_wipe g.wipes ++ (map to_drop_dir g.first ++ (map to_make g.dirs ++ (map put_of g.puts ++ map to_drop_dir g.second))))
+acts_of g =
+    map to_drop g.drops ++
+    (map to_wipe g.wipes ++ (map to_drop_dir g.first ++ (map to_make g.dirs ++ (map put_of g.puts ++ map to_drop_dir g.second))))

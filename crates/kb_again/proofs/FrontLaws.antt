@@ -17,12 +17,14 @@ pub in_turn-append : {A : Type 0} (f : A → Tree → Tree) (xs ys : List A) (t 
 in_turn-append f [] ys t = refl
 in_turn-append f (x ∷ xs) ys t = in_turn-append f xs ys (f x t)
 
-in_turn-map : {A : Type 0} (h : A → Act) (f : A → Tree → Tree) → ((x : A) (t : Tree) → do_act (h x) t ≡ f x t) → (xs : List A) (t : Tree) → do_acts (map h xs) t ≡ in_turn f xs t
+in_turn-map : {A : Type 0} (h : A → Act) (f : A → Tree → Tree) → ((x : A) (t : Tree) → do_act (h x) t ≡ f x t) → (xs : List A) (t : Tree)
+    → do_acts (map h xs) t ≡ in_turn f xs t
 in_turn-map h f same [] t = refl
 in_turn-map h f same (x ∷ xs) t = ap (do_acts (map h xs)) (same x t) ∙ in_turn-map h f same xs (f x t)
 
 -- a front of two lists one after another
-split_front : (front back xs ys : List Act) → front ++ back ≡ xs ++ ys → ((more : List Act) × (front ++ more ≡ xs)) ⊎ ((later : List Act) × (front ≡ xs ++ later) × (later ++ back ≡ ys))
+split_front : (front back xs ys : List Act) → front ++ back ≡ xs ++ ys
+    → ((more : List Act) × (front ++ more ≡ xs)) ⊎ ((later : List Act) × (front ≡ xs ++ later) × (later ++ back ≡ ys))
 split_front front back [] ys e = inr (front, refl, e)
 split_front [] back (x ∷ xs) ys e = inl (x ∷ xs, refl)
 split_front (c ∷ front) back (x ∷ xs) ys e =
@@ -48,7 +50,8 @@ map_front h (c ∷ front) more (p ∷ ps) e =
     let rest = map_front h front more ps tail in
     record { taken = p ∷ rest.taken; left = rest.left; whole = ap (λ l. p ∷ l) rest.whole; is = λ i. head i ∷ rest.is i }
 
-drops_between : (xs ys : List Path) (t : Tree) → Between (node_at t) (node_at (in_turn drop_at (xs ++ ys) t)) (node_at (in_turn drop_at xs t))
+drops_between : (xs ys : List Path) (t : Tree)
+    → Between (node_at t) (node_at (in_turn drop_at (xs ++ ys) t)) (node_at (in_turn drop_at xs t))
 drops_between xs ys t q =
     let e = ap (λ u. node_at u q) (in_turn-append drop_at xs ys t) in
     elim ((dropped ys (in_turn drop_at xs t)).each q) [
@@ -56,12 +59,14 @@ drops_between xs ys t q =
       | inr gone ↦ elim ((dropped xs t).each q) [ inl kept ↦ inl kept | inr went ↦ absurd (true≢false (sym gone.1 ∙ ap is_leaf went.2)) ]
     ]
 
-pub wipes_between : (xs ys : List Path) (t : Tree) → Between (node_at t) (node_at (in_turn wipe_at (xs ++ ys) t)) (node_at (in_turn wipe_at xs t))
+pub wipes_between : (xs ys : List Path) (t : Tree)
+    → Between (node_at t) (node_at (in_turn wipe_at (xs ++ ys) t)) (node_at (in_turn wipe_at xs t))
 wipes_between xs ys t q =
     let e = ap (λ u. node_at u q) (in_turn-append wipe_at xs ys t) in
     elim ((wiped xs t).each q) [
       | inl kept ↦ inl kept
-      | inr went ↦ inr (elim ((wiped ys (in_turn wipe_at xs t)).each q) [ inl same ↦ sym same ∙ sym e | inr gone ↦ went.1 ∙ sym gone.1 ∙ sym e ])
+      | inr went ↦
+          inr (elim ((wiped ys (in_turn wipe_at xs t)).each q) [ inl same ↦ sym same ∙ sym e | inr gone ↦ went.1 ∙ sym gone.1 ∙ sym e ])
     ]
 
 pub listed_left : (r : Path) (xs ys : List Path) → is_listed r xs ≡ true → is_listed r (xs ++ ys) ≡ true
@@ -84,9 +89,11 @@ upward_parts (x ∷ xs) ys up = let rest = upward_parts xs ys up.1 in (((λ r in
 
 downward_parts : (xs ys : List Path) → IsDownward (xs ++ ys) → IsDownward xs × IsDownward ys
 downward_parts [] ys down = (tt, down)
-downward_parts (x ∷ xs) ys down = let rest = downward_parts xs ys down.1 in (((λ r in_it. down.0 r (listed_left r xs ys in_it)), rest.0), rest.1)
+downward_parts (x ∷ xs) ys down =
+    let rest = downward_parts xs ys down.1 in (((λ r in_it. down.0 r (listed_left r xs ys in_it)), rest.0), rest.1)
 
-clears_between : (xs ys : List Path) (t : Tree) → IsUpward (xs ++ ys) → Between (node_at t) (node_at (in_turn drop_dir_at (xs ++ ys) t)) (node_at (in_turn drop_dir_at xs t))
+clears_between : (xs ys : List Path) (t : Tree) → IsUpward (xs ++ ys)
+    → Between (node_at t) (node_at (in_turn drop_dir_at (xs ++ ys) t)) (node_at (in_turn drop_dir_at xs t))
 clears_between xs ys t up q =
     let parts = upward_parts xs ys up in
     let e = ap (λ u. node_at u q) (in_turn-append drop_dir_at xs ys t) in
@@ -95,7 +102,8 @@ clears_between xs ys t up q =
       | inr goes ↦ elim ((cleared xs t parts.0).each q) [ inl kept ↦ inl kept | inr went ↦ absurd (none_dir went.gone goes.was) ]
     ]
 
-makes_between : (xs ys : List Path) (t : Tree) → IsDownward (xs ++ ys) → is_listed [] xs ≡ false → is_listed [] ys ≡ false → Between (node_at t) (node_at (in_turn make_dir_at (xs ++ ys) t)) (node_at (in_turn make_dir_at xs t))
+makes_between : (xs ys : List Path) (t : Tree) → IsDownward (xs ++ ys) → is_listed [] xs ≡ false → is_listed [] ys ≡ false
+    → Between (node_at t) (node_at (in_turn make_dir_at (xs ++ ys) t)) (node_at (in_turn make_dir_at xs t))
 makes_between xs ys t down no_x no_y q =
     let parts = downward_parts xs ys down in
     let e = ap (λ u. node_at u q) (in_turn-append make_dir_at xs ys t) in
@@ -105,7 +113,9 @@ makes_between xs ys t down no_x no_y q =
     ]
 
 -- one whole group, and then others
-group_then : {A : Type 0} (h : A → Act) (f : A → Tree → Tree) (same : (x : A) (t : Tree) → do_act (h x) t ≡ f x t) (ps : List A) (later : List Act) (t : Tree) → do_acts (map h ps ++ later) t ≡ do_acts later (in_turn f ps t)
+group_then : {A : Type 0} (h : A → Act) (f : A → Tree → Tree) (same : (x : A) (t : Tree) → do_act (h x) t ≡ f x t) (ps : List A)
+    (later : List Act) (t : Tree)
+    → do_acts (map h ps ++ later) t ≡ do_acts later (in_turn f ps t)
 group_then h f same ps later t = in_turn-append do_act (map h ps) later t ∙ ap (do_acts later) (in_turn-map h f same ps t)
 
 -- in all, the changes are the groups one after another
@@ -135,17 +145,24 @@ out_of_right : (xs ys ps : List Path) → xs ++ ys ≡ ps → is_listed [] ps �
 out_of_right xs ys ps e out = not_in _ (λ h. true≢false (sym (listed_right [] xs ys h) ∙ ap (is_listed []) e ∙ out))
 
 -- a group of which a front is done
-after_front : {A : Type 0} (h : A → Act) (f : A → Tree → Tree) (same : (x : A) (t : Tree) → do_act (h x) t ≡ f x t) (front : List Act) (ps : List A) (w : IsFrontOf h front ps) (t : Tree) → do_acts front t ≡ in_turn f w.taken t
+after_front : {A : Type 0} (h : A → Act) (f : A → Tree → Tree) (same : (x : A) (t : Tree) → do_act (h x) t ≡ f x t) (front : List Act)
+    (ps : List A) (w : IsFrontOf h front ps) (t : Tree)
+    → do_acts front t ≡ in_turn f w.taken t
 after_front h f same front ps w t = ap (λ cs. do_acts cs t) w.is ∙ in_turn-map h f same w.taken t
 
-whole_then : {A : Type 0} (h : A → Act) (f : A → Tree → Tree) (same : (x : A) (t : Tree) → do_act (h x) t ≡ f x t) (front later : List Act) (ps : List A) → front ≡ map h ps ++ later → (t : Tree) → do_acts front t ≡ do_acts later (in_turn f ps t)
-whole_then h f same front later ps e t = ap (λ cs. do_acts cs t) e ∙ in_turn-append do_act (map h ps) later t ∙ ap (do_acts later) (in_turn-map h f same ps t)
+whole_then : {A : Type 0} (h : A → Act) (f : A → Tree → Tree) (same : (x : A) (t : Tree) → do_act (h x) t ≡ f x t) (front later : List Act)
+    (ps : List A)
+    → front ≡ map h ps ++ later → (t : Tree) → do_acts front t ≡ do_acts later (in_turn f ps t)
+whole_then h f same front later ps e t =
+    ap (λ cs. do_acts cs t) e ∙ in_turn-append do_act (map h ps) later t ∙ ap (do_acts later) (in_turn-map h f same ps t)
 
 pub front_is_part : (g : Groups) (front back : List Act) (t : Tree) → IsValid g → front ++ back ≡ acts_of g → IsPart g t (do_acts front t)
 front_is_part g front back t valid e = elim (split_front front back (map to_drop g.drops) _ e) [
   | inl more ↦
       let w = map_front to_drop front more.0 g.drops more.1 in
-      let b = subst (λ ps. Between (node_at t) (node_at (in_turn drop_at ps t)) (node_at (in_turn drop_at w.taken t))) w.whole (drops_between w.taken w.left t) in
+      let b =
+      subst (λ ps. Between (node_at t) (node_at (in_turn drop_at ps t)) (node_at (in_turn drop_at w.taken t))) w.whole
+      (drops_between w.taken w.left t) in
       in_drops (subst (λ u. Between (node_at t) (node_at (dropped_tree g t)) (node_at u)) (sym (after_front to_drop drop_at (λ p u. refl) front g.drops w t)) b)
   | inr l1 ↦
       let s1 = whole_then to_drop drop_at (λ p u. refl) front l1.0 g.drops l1.1 t in
@@ -153,7 +170,9 @@ front_is_part g front back t valid e = elim (split_front front back (map to_drop
       elim (split_front l1.0 back (map to_wipe g.wipes) _ l1.2) [
         | inl more ↦
             let w = map_front to_wipe l1.0 more.0 g.wipes more.1 in
-            let b = subst (λ ps. Between (node_at t1) (node_at (in_turn wipe_at ps t1)) (node_at (in_turn wipe_at w.taken t1))) w.whole (wipes_between w.taken w.left t1) in
+            let b =
+            subst (λ ps. Between (node_at t1) (node_at (in_turn wipe_at ps t1)) (node_at (in_turn wipe_at w.taken t1))) w.whole
+            (wipes_between w.taken w.left t1) in
             in_wipes (subst (λ u. Between (node_at t1) (node_at (wiped_tree g t)) (node_at u)) (sym (s1 ∙ after_front to_wipe wipe_at (λ p u. refl) l1.0 g.wipes w t1)) b)
         | inr l2 ↦
             let s2 = s1 ∙ whole_then to_wipe wipe_at (λ p u. refl) l1.0 l2.0 g.wipes l2.1 t1 in
@@ -161,7 +180,8 @@ front_is_part g front back t valid e = elim (split_front front back (map to_drop
             elim (split_front l2.0 back (map to_drop_dir g.first) _ l2.2) [
               | inl more ↦
                   let w = map_front to_drop_dir l2.0 more.0 g.first more.1 in
-                  let b = subst (λ ps. Between (node_at t2) (node_at (in_turn drop_dir_at ps t2)) (node_at (in_turn drop_dir_at w.taken t2))) w.whole (clears_between w.taken w.left t2 (subst IsUpward (sym w.whole) valid.first_order)) in
+                  let b =
+                  subst (λ ps. Between (node_at t2) (node_at (in_turn drop_dir_at ps t2)) (node_at (in_turn drop_dir_at w.taken t2))) w.whole (clears_between w.taken w.left t2 (subst IsUpward (sym w.whole) valid.first_order)) in
                   in_first (subst (λ u. Between (node_at t2) (node_at (cleared_tree g t)) (node_at u)) (sym (s2 ∙ after_front to_drop_dir drop_dir_at (λ p u. refl) l2.0 g.first w t2)) b)
               | inr l3 ↦
                   let s3 = s2 ∙ whole_then to_drop_dir drop_dir_at (λ p u. refl) l2.0 l3.0 g.first l3.1 t2 in
@@ -169,7 +189,8 @@ front_is_part g front back t valid e = elim (split_front front back (map to_drop
                   elim (split_front l3.0 back (map to_make g.dirs) _ l3.2) [
                     | inl more ↦
                         let w = map_front to_make l3.0 more.0 g.dirs more.1 in
-                        let b = subst (λ ps. Between (node_at t3) (node_at (in_turn make_dir_at ps t3)) (node_at (in_turn make_dir_at w.taken t3))) w.whole (makes_between w.taken w.left t3 (subst IsDownward (sym w.whole) valid.dirs_order) (out_of_left w.taken w.left g.dirs w.whole valid.dirs_root) (out_of_right w.taken w.left g.dirs w.whole valid.dirs_root)) in
+                        let b =
+                        subst (λ ps. Between (node_at t3) (node_at (in_turn make_dir_at ps t3)) (node_at (in_turn make_dir_at w.taken t3))) w.whole (makes_between w.taken w.left t3 (subst IsDownward (sym w.whole) valid.dirs_order) (out_of_left w.taken w.left g.dirs w.whole valid.dirs_root) (out_of_right w.taken w.left g.dirs w.whole valid.dirs_root)) in
                         in_dirs (subst (λ u. Between (node_at t3) (node_at (made_tree g t)) (node_at u)) (sym (s3 ∙ after_front to_make make_dir_at (λ p u. refl) l3.0 g.dirs w t3)) b)
                     | inr l4 ↦
                         let s4 = s3 ∙ whole_then to_make make_dir_at (λ p u. refl) l3.0 l4.0 g.dirs l4.1 t3 in
@@ -177,12 +198,14 @@ front_is_part g front back t valid e = elim (split_front front back (map to_drop
                         elim (split_front l4.0 back (map put_of g.puts) _ l4.2) [
                           | inl more ↦
                               let w = map_front put_of l4.0 more.0 g.puts more.1 in
-                              in_puts w.taken (λ m h. subst (IsMember m) w.whole (members_left w.taken w.left m h)) (s4 ∙ after_front put_of move_at (λ m u. refl) l4.0 g.puts w t4)
+                              in_puts w.taken (λ m h. subst (IsMember m) w.whole (members_left w.taken w.left m h))
+                              (s4 ∙ after_front put_of move_at (λ m u. refl) l4.0 g.puts w t4)
                           | inr l5 ↦
                               let s5 = s4 ∙ whole_then put_of move_at (λ m u. refl) l4.0 l5.0 g.puts l5.1 t4 in
                               let t5 = put_tree g t in
                               let w = map_front to_drop_dir l5.0 back g.second l5.2 in
-                              let b = subst (λ ps. Between (node_at t5) (node_at (in_turn drop_dir_at ps t5)) (node_at (in_turn drop_dir_at w.taken t5))) w.whole (clears_between w.taken w.left t5 (subst IsUpward (sym w.whole) valid.second_order)) in
+                              let b =
+                              subst (λ ps. Between (node_at t5) (node_at (in_turn drop_dir_at ps t5)) (node_at (in_turn drop_dir_at w.taken t5))) w.whole (clears_between w.taken w.left t5 (subst IsUpward (sym w.whole) valid.second_order)) in
                               in_second (subst (λ u. Between (node_at t5) (node_at (done g t)) (node_at u)) (sym (s5 ∙ after_front to_drop_dir drop_dir_at (λ p u. refl) l5.0 g.second w t5)) b)
                         ]
                   ]

@@ -16,13 +16,15 @@ use Rattle.kb_again.proofs.AgainLaws.{none_dir}
 use Rattle.kb_world.specs.declared.tree.Node.TheVariants as node
 
 -- a drop
-pub drop_each : (p : Path) (t : Tree) (q : Path) → (node_at (drop_at p t) q ≡ node_at t q) ⊎ ((q ≡ p) × (is_leaf (node_at t q) ≡ true) × (node_at (drop_at p t) q ≡ None))
+pub drop_each : (p : Path) (t : Tree) (q : Path)
+    → (node_at (drop_at p t) q ≡ node_at t q) ⊎ ((q ≡ p) × (is_leaf (node_at t q) ≡ true) × (node_at (drop_at p t) q ≡ None))
 drop_each p t q = elim (cases_Bool (is_leaf (node_at t p))) [
   | inr not_one ↦ inl (ap (λ b. node_at (cond b (without p t) t) q) not_one)
   | inl file ↦
       let is : drop_at p t ≡ without p t = ap (λ b. cond b (without p t) t) file in
       elim (same_or_not q p) [
-        | inl same ↦ inr (same, ap (λ x. is_leaf (node_at t x)) same ∙ file, ap (λ u. node_at u q) is ∙ ap (node_at (without p t)) same ∙ remove-here t p)
+        | inl same ↦
+            inr (same, ap (λ x. is_leaf (node_at t x)) same ∙ file, ap (λ u. node_at u q) is ∙ ap (node_at (without p t)) same ∙ remove-here t p)
         | inr other ↦ inl (ap (λ u. node_at u q) is ∙ remove-apart t p q other)
       ]
 ]
@@ -100,7 +102,8 @@ pub record LosesNone (p : Path) (t u : Tree) : Type 0 where
 
 pub drop_dir_cases : (p : Path) (t : Tree) → LosesDir p t (drop_dir_at p t) ⊎ LosesNone p t (drop_dir_at p t)
 drop_dir_cases p t = elim (cases_Bool (is_dir (node_at t p))) [
-  | inr not_one ↦ inr (record { same = ap (λ b. cond (b && not (list_any (is_above p) (keys t))) (without p t) t) not_one; filled = λ is. absurd (true≢false (sym (dir_test _ is) ∙ not_one)) })
+  | inr not_one ↦
+      inr (record { same = ap (λ b. cond (b && not (list_any (is_above p) (keys t))) (without p t) t) not_one; filled = λ is. absurd (true≢false (sym (dir_test _ is) ∙ not_one)) })
   | inl one ↦ elim (empty_or_filled t p) [
     | inr f ↦ inr (record { same = (λ i. cond (one i && not (f.0 i)) (without p t) t); filled = λ is. f.1 })
     | inl e ↦
@@ -109,7 +112,8 @@ drop_dir_cases p t = elim (cases_Bool (is_dir (node_at t p))) [
   ]
 ]
 
-filled_holds : (p : Path) (ps : List Path) (t : Tree) (q : Path) → ((r : Path) → is_listed r ps ≡ true → is_above p r ≡ true → ⊥) → is_over q p ≡ true → Filled t p → Holds (p ∷ ps) (node_at t) q
+filled_holds : (p : Path) (ps : List Path) (t : Tree) (q : Path) → ((r : Path) → is_listed r ps ≡ true → is_above p r ≡ true → ⊥)
+    → is_over q p ≡ true → Filled t p → Holds (p ∷ ps) (node_at t) q
 filled_holds p ps t q up under f = record {
   path = f.path;
   under = over_over q p f.path under (above_over p f.path f.below);
@@ -128,7 +132,8 @@ cleared (p ∷ ps) t up =
     let rest = cleared ps (drop_dir_at p t) up.1 in
     let u = drop_dir_at p t in
     let v = in_turn drop_dir_at ps u in
-    let stays_none : (r : Path) → node_at u r ≡ None → node_at v r ≡ None = λ r none. elim (rest.each r) [ inl kept ↦ kept ∙ none | inr goes ↦ goes.gone ] in
+    let stays_none : (r : Path) → node_at u r ≡ None → node_at v r ≡ None =
+    λ r none. elim (rest.each r) [ inl kept ↦ kept ∙ none | inr goes ↦ goes.gone ] in
     elim (drop_dir_cases p t) [
       | inl takes ↦ record {
         each = λ q. elim (same_or_not q p) [
@@ -138,12 +143,14 @@ cleared (p ∷ ps) t up =
             listed = listed_first q p ps same;
             bare = λ r below. elim (over_cases p r (ap (λ x. is_over x r) (sym same) ∙ below)) [
               | inl here ↦ stays_none r (ap (node_at u) (sym here) ∙ takes.gone)
-              | inr under ↦ stays_none r (takes.others r (λ is_p. not_above_itself p (ap (is_above p) (sym is_p) ∙ under)) ∙ takes.empty.none r under)
+              | inr under ↦
+                  stays_none r (takes.others r (λ is_p. not_above_itself p (ap (is_above p) (sym is_p) ∙ under)) ∙ takes.empty.none r under)
             ];
           })
           | inr other ↦ elim (rest.each q) [
             | inl kept ↦ inl (kept ∙ takes.others q other)
-            | inr goes ↦ inr (record { was = sym (takes.others q other) ∙ goes.was; gone = goes.gone; listed = listed_more q p ps goes.listed; bare = goes.bare })
+            | inr goes ↦
+                inr (record { was = sym (takes.others q other) ∙ goes.was; gone = goes.gone; listed = listed_more q p ps goes.listed; bare = goes.bare })
           ]
         ];
         full = λ q h is. elim (listed_cons q p ps h) [
@@ -157,7 +164,9 @@ cleared (p ∷ ps) t up =
                 under = w.under;
                 solid = record {
                   stands = λ none. w.solid.stands (kept ∙ none);
-                  stays = λ dir in_it. elim (listed_cons w.path p ps in_it) [ inl same ↦ other same | inr more ↦ w.solid.stays (kept ∙ dir) more ];
+                  stays =
+                      λ dir in_it. elim
+                      (listed_cons w.path p ps in_it) [ inl same ↦ other same | inr more ↦ w.solid.stays (kept ∙ dir) more ];
                 };
               }
         ];
@@ -167,12 +176,14 @@ cleared (p ∷ ps) t up =
           record {
             each = λ q. elim (rest.each q) [
               | inl kept ↦ inl (kept ∙ same_at q)
-              | inr goes ↦ inr (record { was = sym (same_at q) ∙ goes.was; gone = goes.gone; listed = listed_more q p ps goes.listed; bare = goes.bare })
+              | inr goes ↦
+                  inr (record { was = sym (same_at q) ∙ goes.was; gone = goes.gone; listed = listed_more q p ps goes.listed; bare = goes.bare })
             ];
             full = λ q h is. elim (listed_cons q p ps h) [
               | inl same ↦
                   let was : node_at u q ≡ Some node.Dir = elim (rest.each q) [ inl kept ↦ sym kept ∙ is | inr goes ↦ goes.was ] in
-                  filled_holds p ps t q up.0 (ap (is_over q) (sym same) ∙ over_itself q) (leaves.filled (ap (node_at t) (sym same) ∙ sym (same_at q) ∙ was))
+                  filled_holds p ps t q up.0 (ap (is_over q) (sym same) ∙ over_itself q)
+                  (leaves.filled (ap (node_at t) (sym same) ∙ sym (same_at q) ∙ was))
               | inr later ↦
                   let w = rest.full q later is in
                   elim (same_or_not w.path p) [
@@ -181,7 +192,9 @@ cleared (p ∷ ps) t up =
                       under = w.under;
                       solid = record {
                         stands = λ none. w.solid.stands (same_at w.path ∙ none);
-                        stays = λ dir in_it. elim (listed_cons w.path p ps in_it) [ inl same ↦ other same | inr more ↦ w.solid.stays (same_at w.path ∙ dir) more ];
+                        stays =
+                            λ dir in_it. elim
+                            (listed_cons w.path p ps in_it) [ inl same ↦ other same | inr more ↦ w.solid.stays (same_at w.path ∙ dir) more ];
                       };
                     }
                     | inl same ↦ elim (cases_Bool (is_dir (node_at t p))) [
@@ -217,9 +230,11 @@ none_there (Some n) h = absurd (true≢false h)
 
 pub make_dir_cases : (p : Path) (t : Tree) → GainsDir p t (make_dir_at p t) ⊎ GainsNone p t (make_dir_at p t)
 make_dir_cases p t = elim (cases_Bool (is_some (node_at t p))) [
-  | inl there ↦ inr (record { same = ap (λ b. cond (not b && is_dir (node_at t (parent p))) (with_node p node.Dir t) t) there; cause = λ dir none. some_stands _ there none })
+  | inl there ↦
+      inr (record { same = ap (λ b. cond (not b && is_dir (node_at t (parent p))) (with_node p node.Dir t) t) there; cause = λ dir none. some_stands _ there none })
   | inr absent ↦ elim (cases_Bool (is_dir (node_at t (parent p)))) [
-    | inr not_dir ↦ inr (record { same = λ i. cond (not (absent i) && not_dir i) (with_node p node.Dir t) t; cause = λ dir none. true≢false (sym (dir_test _ dir) ∙ not_dir) })
+    | inr not_dir ↦
+        inr (record { same = λ i. cond (not (absent i) && not_dir i) (with_node p node.Dir t) t; cause = λ dir none. true≢false (sym (dir_test _ dir) ∙ not_dir) })
     | inl dir ↦
         let is : make_dir_at p t ≡ with_node p node.Dir t = λ i. cond (not (absent i) && dir i) (with_node p node.Dir t) t in
         inl (record { was = none_there _ absent; above = dir_is _ dir; here = ap (λ u. node_at u p) is ∙ with_node-here t p node.Dir; others = λ q other. ap (λ u. node_at u q) is ∙ with_node-apart t p node.Dir q other })
@@ -227,7 +242,8 @@ make_dir_cases p t = elim (cases_Bool (is_some (node_at t p))) [
 ]
 
 out_rest : (p : Path) (ps : List Path) → is_listed [] (p ∷ ps) ≡ false → is_listed [] ps ≡ false
-out_rest p ps out = elim (cases_Bool (is_listed [] ps)) [ inr is_out ↦ is_out | inl in_it ↦ absurd (true≢false (sym (listed_more [] p ps in_it) ∙ out)) ]
+out_rest p ps out =
+    elim (cases_Bool (is_listed [] ps)) [ inr is_out ↦ is_out | inl in_it ↦ absurd (true≢false (sym (listed_more [] p ps in_it) ∙ out)) ]
 
 pub made : (ps : List Path) (t : Tree) → IsDownward ps → is_listed [] ps ≡ false → Made ps (node_at t) (node_at (in_turn make_dir_at ps t))
 made [] t down out = record { each = λ q. inl refl; full = λ q h. absurd (true≢false (sym h)) }
@@ -235,14 +251,17 @@ made (p ∷ ps) t down out =
     let rest = made ps (make_dir_at p t) down.1 (out_rest p ps out) in
     let u = make_dir_at p t in
     let v = in_turn make_dir_at ps u in
-    let stays_dir : (r : Path) → node_at u r ≡ Some node.Dir → node_at v r ≡ Some node.Dir = λ r dir. elim (rest.each r) [ inl kept ↦ kept ∙ dir | inr makes ↦ makes.made ] in
+    let stays_dir : (r : Path) → node_at u r ≡ Some node.Dir → node_at v r ≡ Some node.Dir =
+    λ r dir. elim (rest.each r) [ inl kept ↦ kept ∙ dir | inr makes ↦ makes.made ] in
     elim (make_dir_cases p t) [
       | inl adds ↦ record {
         each = λ q. elim (same_or_not q p) [
-          | inl same ↦ inr (record { was = ap (node_at t) same ∙ adds.was; made = stays_dir q (ap (node_at u) same ∙ adds.here); listed = listed_first q p ps same; above = stays_dir (parent q) (ap (λ x. node_at u (parent x)) same ∙ adds.others (parent p) (λ is_p. none_dir adds.was (ap (node_at t) (sym is_p) ∙ adds.above)) ∙ adds.above) })
+          | inl same ↦
+              inr (record { was = ap (node_at t) same ∙ adds.was; made = stays_dir q (ap (node_at u) same ∙ adds.here); listed = listed_first q p ps same; above = stays_dir (parent q) (ap (λ x. node_at u (parent x)) same ∙ adds.others (parent p) (λ is_p. none_dir adds.was (ap (node_at t) (sym is_p) ∙ adds.above)) ∙ adds.above) })
           | inr other ↦ elim (rest.each q) [
             | inl kept ↦ inl (kept ∙ adds.others q other)
-            | inr makes ↦ inr (record { was = sym (adds.others q other) ∙ makes.was; made = makes.made; listed = listed_more q p ps makes.listed; above = makes.above })
+            | inr makes ↦
+                inr (record { was = sym (adds.others q other) ∙ makes.was; made = makes.made; listed = listed_more q p ps makes.listed; above = makes.above })
           ]
         ];
         full = λ q h dir none. elim (listed_cons q p ps h) [
@@ -255,14 +274,18 @@ made (p ∷ ps) t down out =
           record {
             each = λ q. elim (rest.each q) [
               | inl kept ↦ inl (kept ∙ same_at q)
-              | inr makes ↦ inr (record { was = sym (same_at q) ∙ makes.was; made = makes.made; listed = listed_more q p ps makes.listed; above = makes.above })
+              | inr makes ↦
+                  inr (record { was = sym (same_at q) ∙ makes.was; made = makes.made; listed = listed_more q p ps makes.listed; above = makes.above })
             ];
             full = λ q h dir none. elim (listed_cons q p ps h) [
               | inr later ↦ rest.full q later dir none
               | inl same ↦
-                  let was : node_at t q ≡ None = elim (rest.each q) [ inl kept ↦ sym (same_at q) ∙ sym kept ∙ none | inr makes ↦ absurd (none_dir none makes.made) ] in
+                  let was : node_at t q ≡ None =
+                  elim (rest.each q) [ inl kept ↦ sym (same_at q) ∙ sym kept ∙ none | inr makes ↦ absurd (none_dir none makes.made) ] in
                   elim (rest.each (parent q)) [
-                    | inl kept ↦ lacks.cause (ap (λ x. node_at t (parent x)) (sym same) ∙ sym (same_at (parent q)) ∙ sym kept ∙ dir) (ap (node_at t) (sym same) ∙ was)
+                    | inl kept ↦
+                        lacks.cause (ap (λ x. node_at t (parent x)) (sym same) ∙ sym (same_at (parent q)) ∙ sym kept ∙ dir)
+                        (ap (node_at t) (sym same) ∙ was)
                     | inr makes ↦ elim (above_parent q) [
                       | inl root ↦ none_dir none (ap (node_at v) (root ∙ sym (ap parent root)) ∙ dir)
                       | inr below ↦ down.0 (parent q) makes.listed (ap (is_above (parent q)) (sym same) ∙ below)

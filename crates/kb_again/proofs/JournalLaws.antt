@@ -46,26 +46,34 @@ change_misses j (to_wipe p) t miss = elim ((wiped (p ∷ []) t).each j) [
   | inl kept ↦ kept
   | inr gone ↦ absurd (elim (cases_Bool (is_over p j)) [ inl is ↦ miss is | inr out ↦ true≢false (sym gone.0 ∙ ap (λ b. b || false) out) ])
 ]
-change_misses j (to_drop_dir p) t miss = elim (drop_dir_cases p t) [ inl takes ↦ takes.others j miss | inr leaves ↦ ap (λ v. node_at v j) leaves.same ]
-change_misses j (to_make p) t miss = elim (make_dir_cases p t) [ inl adds ↦ adds.others j miss | inr lacks ↦ ap (λ v. node_at v j) lacks.same ]
-change_misses j (to_put staged target) t miss = elim (move_cases (staged, target) t) [ inl moves ↦ moves.others j miss.0 miss.1 | inr stays ↦ ap (λ v. node_at v j) stays.same ]
+change_misses j (to_drop_dir p) t miss =
+    elim (drop_dir_cases p t) [ inl takes ↦ takes.others j miss | inr leaves ↦ ap (λ v. node_at v j) leaves.same ]
+change_misses j (to_make p) t miss =
+    elim (make_dir_cases p t) [ inl adds ↦ adds.others j miss | inr lacks ↦ ap (λ v. node_at v j) lacks.same ]
+change_misses j (to_put staged target) t miss =
+    elim (move_cases (staged, target) t) [ inl moves ↦ moves.others j miss.0 miss.1 | inr stays ↦ ap (λ v. node_at v j) stays.same ]
 
-effects_miss : (j : Path) (a : Area) → ((q : Path) → reaches a q ≡ true → j ≡ q → ⊥) → (es : List Written) (t : Tree) → node_at (in_turn (effect_in a) es t) j ≡ node_at t j
+effects_miss : (j : Path) (a : Area) → ((q : Path) → reaches a q ≡ true → j ≡ q → ⊥) → (es : List Written) (t : Tree)
+    → node_at (in_turn (effect_in a) es t) j ≡ node_at t j
 effects_miss j a miss [] t = refl
 effects_miss j a miss (e ∷ es) t = effects_miss j a miss es (effect_in a e t) ∙ elim (cases_Bool (reaches a e.0)) [
   | inl is ↦ effect_other a e t j (miss e.0 is)
-  | inr out ↦ ap (λ b. node_at (cond ((b && not (is_dir e.1)) && (not (is_dir (node_at t e.0)) && is_dir (node_at t (parent e.0)))) (edited e.0 e.1 t) t) j) out
+  | inr out ↦
+      ap (λ b. node_at (cond ((b && not (is_dir e.1)) && (not (is_dir (node_at t e.0)) && is_dir (node_at t (parent e.0)))) (edited e.0 e.1 t) t) j) out
 ]
 
 step_misses : (j : Path) (f : Script) (r : Roots) (x : Step) (t : Tree) → Misses j x → node_at (do_step f r x t) j ≡ node_at t j
 unfolding Misses
 step_misses j f r (act c) t miss = change_misses j c t miss
 step_misses j f r (run c) t miss = elim (cases_Bool (is_dir (node_at t c.dir))) [
-  | inl dir ↦ ap (λ b. node_at (cond b (in_turn (effect_in c.area) (writes f c (view_of r c t)) t) t) j) dir ∙ effects_miss j c.area miss (writes f c (view_of r c t)) t
+  | inl dir ↦
+      ap (λ b. node_at (cond b (in_turn (effect_in c.area) (writes f c (view_of r c t)) t) t) j) dir
+      ∙ effects_miss j c.area miss (writes f c (view_of r c t)) t
   | inr other ↦ ap (λ b. node_at (cond b (in_turn (effect_in c.area) (writes f c (view_of r c t)) t) t) j) other
 ]
 
-steps_miss : (j : Path) (f : Script) (r : Roots) (front back : List Step) (t : Tree) → AllByRecursion (Misses j) (front ++ back) → node_at (do_steps f r front t) j ≡ node_at t j
+steps_miss : (j : Path) (f : Script) (r : Roots) (front back : List Step) (t : Tree) → AllByRecursion (Misses j) (front ++ back)
+    → node_at (do_steps f r front t) j ≡ node_at t j
 steps_miss j f r [] back t all = refl
 steps_miss j f r (x ∷ front) back t all = steps_miss j f r front back (do_step f r x t) all.1 ∙ step_misses j f r x t all.0
 
@@ -91,8 +99,12 @@ module _ (r : Roots) (s : Lists) (roots : AreRoots r) (valid : IsValidUnder r s)
   not_changed : (q : Path) → is_listed q (changed_paths s) ≡ true → is_over q (intent_path r) ≡ true → ⊥
   not_changed q changed under =
       elim (over_cases q (intent_path r) under) [
-        | inl same ↦ valid.not_inside q changed (inside (untouched r) (intent_path r) q (at_0 (intent_path r) (new_intent_path r ∷ staging_paths r)) (subst (λ x. is_over (intent_path r) x ≡ true) (sym same) (over_itself (intent_path r))))
-        | inr above ↦ not_at_root r roots q r.dkms (below_root r s roots valid q changed) (is_root r root_name.Dkms) (above_child q r.dkms (codes ".intent") above)
+        | inl same ↦
+            valid.not_inside q changed
+            (inside (untouched r) (intent_path r) q (at_0 (intent_path r) (new_intent_path r ∷ staging_paths r)) (subst (λ x. is_over (intent_path r) x ≡ true) (sym same) (over_itself (intent_path r))))
+        | inr above ↦
+            not_at_root r roots q r.dkms (below_root r s roots valid q changed) (is_root r root_name.Dkms)
+            (above_child q r.dkms (codes ".intent") above)
       ]
 
   not_same : (q : Path) → is_listed q (changed_paths s) ≡ true → intent_path r ≡ q → ⊥
@@ -102,13 +114,19 @@ module _ (r : Roots) (s : Lists) (roots : AreRoots r) (valid : IsValidUnder r s)
   drop_changed q h = listed_left q s.drops (s.wipes ++ (s.first ++ (s.dirs ++ (targets s ++ s.second)))) h
 
   wipe_changed : (q : Path) → is_listed q s.wipes ≡ true → is_listed q (changed_paths s) ≡ true
-  wipe_changed q h = listed_right q s.drops (s.wipes ++ (s.first ++ (s.dirs ++ (targets s ++ s.second)))) (listed_left q s.wipes (s.first ++ (s.dirs ++ (targets s ++ s.second))) h)
+  wipe_changed q h =
+      listed_right q s.drops (s.wipes ++ (s.first ++ (s.dirs ++ (targets s ++ s.second))))
+      (listed_left q s.wipes (s.first ++ (s.dirs ++ (targets s ++ s.second))) h)
 
   not_its_staged : (c : StagedPut) → intent_path r ≡ staged_at r c → ⊥
   not_its_staged c same =
-      -- the staged place is one name deeper than the journal's root, or the roots aren't apart
-      let under : is_over (staging_path (root_path r c.root)) (intent_path r) ≡ true = subst (λ x. is_over (staging_path (root_path r c.root)) x ≡ true) (sym same) (staged_under r s roots valid c) in
-      let below : is_above (root_path r c.root) r.dkms ≡ true = above_over_above (root_path r c.root) (staging_path (root_path r c.root)) r.dkms (child_above (root_path r c.root) (codes ".kb-staged")) (above_child (staging_path (root_path r c.root)) r.dkms (codes ".intent") (subst (λ x. is_above (staging_path (root_path r c.root)) x ≡ true) (sym same) (child_above (staging_path (root_path r c.root)) (decimal c.number)))) in
+      -- else the root would be above the dkms root
+      let under : is_over (staging_path (root_path r c.root)) (intent_path r) ≡ true =
+      subst (λ x. is_over (staging_path (root_path r c.root)) x ≡ true) (sym same) (staged_under r s roots valid c) in
+      let below : is_above (root_path r c.root) r.dkms ≡ true =
+      above_over_above (root_path r c.root) (staging_path (root_path r c.root)) r.dkms
+      (child_above (root_path r c.root) (codes ".kb-staged"))
+      (above_child (staging_path (root_path r c.root)) r.dkms (codes ".intent") (subst (λ x. is_above (staging_path (root_path r c.root)) x ≡ true) (sym same) (child_above (staging_path (root_path r c.root)) (decimal c.number)))) in
       disjoint_below (all_roots r) roots.disjoint (root_path r c.root) r.dkms (is_root r c.root) (is_root r root_name.Dkms) below
 
   all_miss : AllByRecursion (Misses (intent_path r)) (steps_of r s)
@@ -121,16 +139,29 @@ module _ (r : Roots) (s : Lists) (roots : AreRoots r) (valid : IsValidUnder r s)
       let l3 = map to_make s.dirs ++ l4 in
       let l2 = map to_drop_dir s.first ++ l3 in
       let l1 = map to_wipe s.wipes ++ l2 in
-      let a5 : AllByRecursion (MissesBy j) l5 = all_map (MissesBy j) to_drop_dir s.second (λ p h. not_same p (in_second_changed r s roots valid p (listed p s.second h))) in
-      let a4 : AllByRecursion (MissesBy j) l4 = all_append (MissesBy j) (map put_of g.puts) l5 (all_map (MissesBy j) put_of g.puts (λ m h. let w = move_from r s roots valid s.puts m h in ((λ e. not_its_staged w.0 (e ∙ ap (λ k. k.0) w.2)), (λ e. not_same w.0.target (target_changed r s roots valid w.0 w.1) (e ∙ ap (λ k. k.1) w.2))))) a5 in
-      let a3 : AllByRecursion (MissesBy j) l3 = all_append (MissesBy j) (map to_make s.dirs) l4 (all_map (MissesBy j) to_make s.dirs (λ p h. not_same p (in_dirs_changed r s roots valid p (listed p s.dirs h)))) a4 in
-      let a2 : AllByRecursion (MissesBy j) l2 = all_append (MissesBy j) (map to_drop_dir s.first) l3 (all_map (MissesBy j) to_drop_dir s.first (λ p h. not_same p (in_first_changed r s roots valid p (listed p s.first h)))) a3 in
-      let a1 : AllByRecursion (MissesBy j) l1 = all_append (MissesBy j) (map to_wipe s.wipes) l2 (all_map (MissesBy j) to_wipe s.wipes (λ p h. not_changed p (wipe_changed p (listed p s.wipes h)))) a2 in
-      let a0 : AllByRecursion (MissesBy j) (acts_of g) = all_append (MissesBy j) (map to_drop s.drops) l1 (all_map (MissesBy j) to_drop s.drops (λ p h. not_same p (drop_changed p (listed p s.drops h)))) a1 in
-      all_append (Misses j) (map act (acts_of g)) (map run s.runs) (all_mapped (Misses j) act (acts_of g) a0) (all_map (Misses j) run s.runs (λ c h q is. not_same q (drop_changed q (area_dropped r s roots valid c h q is))))
+      let a5 : AllByRecursion (MissesBy j) l5 =
+      all_map (MissesBy j) to_drop_dir s.second (λ p h. not_same p (in_second_changed r s roots valid p (listed p s.second h))) in
+      let a4 : AllByRecursion (MissesBy j) l4 =
+      all_append (MissesBy j) (map put_of g.puts) l5
+      (all_map (MissesBy j) put_of g.puts (λ m h. let w = move_from r s roots valid s.puts m h in ((λ e. not_its_staged w.0 (e ∙ ap (λ k. k.0) w.2)), (λ e. not_same w.0.target (target_changed r s roots valid w.0 w.1) (e ∙ ap (λ k. k.1) w.2))))) a5 in
+      let a3 : AllByRecursion (MissesBy j) l3 =
+      all_append (MissesBy j) (map to_make s.dirs) l4
+      (all_map (MissesBy j) to_make s.dirs (λ p h. not_same p (in_dirs_changed r s roots valid p (listed p s.dirs h)))) a4 in
+      let a2 : AllByRecursion (MissesBy j) l2 =
+      all_append (MissesBy j) (map to_drop_dir s.first) l3
+      (all_map (MissesBy j) to_drop_dir s.first (λ p h. not_same p (in_first_changed r s roots valid p (listed p s.first h)))) a3 in
+      let a1 : AllByRecursion (MissesBy j) l1 =
+      all_append (MissesBy j) (map to_wipe s.wipes) l2
+      (all_map (MissesBy j) to_wipe s.wipes (λ p h. not_changed p (wipe_changed p (listed p s.wipes h)))) a2 in
+      let a0 : AllByRecursion (MissesBy j) (acts_of g) =
+      all_append (MissesBy j) (map to_drop s.drops) l1
+      (all_map (MissesBy j) to_drop s.drops (λ p h. not_same p (drop_changed p (listed p s.drops h)))) a1 in
+      all_append (Misses j) (map act (acts_of g)) (map run s.runs) (all_mapped (Misses j) act (acts_of g) a0)
+      (all_map (Misses j) run s.runs (λ c h q is. not_same q (drop_changed q (area_dropped r s roots valid c h q is))))
 
 -- no step changes what stands at the journal's path
-pub journal_stays : (f : Script) (r : Roots) (s : Lists) (front back : List Step) (t : Tree) → AreRoots r → IsValidUnder r s → front ++ back ≡ steps_of r s
+pub journal_stays : (f : Script) (r : Roots) (s : Lists) (front back : List Step) (t : Tree) → AreRoots r → IsValidUnder r s
+    → front ++ back ≡ steps_of r s
     → node_at (do_steps f r front t) (intent_path r) ≡ node_at t (intent_path r)
 journal_stays f r s front back t roots valid e =
     steps_miss (intent_path r) f r front back t (subst (AllByRecursion (Misses (intent_path r))) (sym e) (all_miss r s roots valid))

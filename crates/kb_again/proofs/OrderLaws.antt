@@ -42,7 +42,8 @@ clash : false ≡ true → ⊥
 clash h = true≢false (sym h)
 
 runs_alone : (r : Roots) (cs : List Change) → are_in_order 6 cs ≡ true → AreRuns r cs
-runs_alone r [] h = record { steps = refl; no_drops = refl; no_wipes = refl; no_drop_dirs = refl; no_first = refl; no_second = refl; no_dirs = refl; no_puts = refl }
+runs_alone r [] h =
+    record { steps = refl; no_drops = refl; no_wipes = refl; no_drop_dirs = refl; no_first = refl; no_second = refl; no_dirs = refl; no_puts = refl }
 runs_alone r (Run request ∷ cs) h =
     let rest = runs_alone r cs h in
     record {
@@ -183,7 +184,8 @@ no_more_wipes r cs w = record {
 
 wipes_then : (r : Roots) (cs : List Change) → are_in_order 1 cs ≡ true → AreWipes r cs
 wipes_then r [] h = record { steps = refl; no_drops = refl }
-wipes_then r (Wipe path ∷ cs) h = let rest = wipes_then r cs h in record { steps = ap (λ l. act (to_wipe path) ∷ l) rest.steps; no_drops = rest.no_drops }
+wipes_then r (Wipe path ∷ cs) h =
+    let rest = wipes_then r cs h in record { steps = ap (λ l. act (to_wipe path) ∷ l) rest.steps; no_drops = rest.no_drops }
 wipes_then r (DropDir path ∷ cs) h = no_more_wipes r (DropDir path ∷ cs) (first_then r (DropDir path ∷ cs) h)
 wipes_then r (Dir path ∷ cs) h = no_more_wipes r (Dir path ∷ cs) (first_then r (Dir path ∷ cs) h)
 wipes_then r (Put name number target ∷ cs) h = no_more_wipes r (Put name number target ∷ cs) (first_then r (Put name number target ∷ cs) h)

@@ -27,7 +27,8 @@ nothing_else (Some (node.File bytes exec)) h k = absurd (k refl)
 nothing_else (Some (node.Link text)) h k = absurd (k refl)
 
 -- a drop done before
-dropped_again : (ps : List Path) (old new mid end : Standing) → Dropped ps old new → Dropped ps mid end → Between old new mid → (q : Path) → end q ≡ new q
+dropped_again : (ps : List Path) (old new mid end : Standing) → Dropped ps old new → Dropped ps mid end → Between old new mid → (q : Path)
+    → end q ≡ new q
 dropped_again ps old new mid end first second between q = elim (first.each q) [
   | inl same ↦
       let here : mid q ≡ new q = elim (between q) [ inl t ↦ t ∙ sym same | inr n ↦ n ] in
@@ -41,7 +42,8 @@ dropped_again ps old new mid end first second between q = elim (first.each q) [
   ]
 ]
 
-wiped_again : (ps : List Path) (old new mid end : Standing) → Wiped ps old new → Wiped ps mid end → Between old new mid → (q : Path) → end q ≡ new q
+wiped_again : (ps : List Path) (old new mid end : Standing) → Wiped ps old new → Wiped ps mid end → Between old new mid → (q : Path)
+    → end q ≡ new q
 wiped_again ps old new mid end first second between q = elim (first.each q) [
   | inl same ↦
       let here : mid q ≡ new q = elim (between q) [ inl t ↦ t ∙ sym same | inr n ↦ n ] in
@@ -57,21 +59,28 @@ pub record IsFree (g : Groups) (look : Standing) : Type 0 where
 pub none_not_file : {o : Option Node} → o ≡ None → is_leaf o ≡ true → ⊥
 none_not_file e f = true≢false (sym f ∙ ap is_leaf e)
 
-pub free_dropped : (g : Groups) (t : Tree) → ((q : Path) → is_listed q g.drops ≡ true → is_leaf (node_at t q) ≡ true → ⊥) → dropped_tree g t ≡ t
-free_dropped g t free = same_tree _ _ (λ q. elim ((dropped g.drops t).each q) [ inl same ↦ same | inr gone ↦ absurd (free q gone.0 gone.1) ])
+pub free_dropped : (g : Groups) (t : Tree) → ((q : Path) → is_listed q g.drops ≡ true → is_leaf (node_at t q) ≡ true → ⊥)
+    → dropped_tree g t ≡ t
+free_dropped g t free =
+    same_tree _ _ (λ q. elim ((dropped g.drops t).each q) [ inl same ↦ same | inr gone ↦ absurd (free q gone.0 gone.1) ])
 
 free_wiped : (g : Groups) (t : Tree) → IsFree g (node_at t) → in_turn wipe_at g.wipes t ≡ t
-free_wiped g t free = same_tree _ _ (λ q. elim ((wiped g.wipes t).each q) [ inl same ↦ same | inr gone ↦ gone.1 ∙ sym (free.nothing q gone.0) ])
+free_wiped g t free =
+    same_tree _ _ (λ q. elim ((wiped g.wipes t).each q) [ inl same ↦ same | inr gone ↦ gone.1 ∙ sym (free.nothing q gone.0) ])
 
 between_free : (g : Groups) (old new mid : Standing) → IsFree g old → IsFree g new → Between old new mid → IsFree g mid
 between_free g old new mid a b between = record {
-  no_file = λ q listed file. elim (between q) [ inl o ↦ a.no_file q listed (ap is_leaf (sym o) ∙ file) | inr n ↦ b.no_file q listed (ap is_leaf (sym n) ∙ file) ];
+  no_file =
+      λ q listed file. elim
+      (between q) [ inl o ↦ a.no_file q listed (ap is_leaf (sym o) ∙ file) | inr n ↦ b.no_file q listed (ap is_leaf (sym n) ∙ file) ];
   nothing = λ q listed. elim (between q) [ inl o ↦ o ∙ a.nothing q listed | inr n ↦ n ∙ b.nothing q listed ];
 }
 
 cleared_free : (g : Groups) (ps : List Path) (old new : Standing) → Cleared ps old new → IsFree g old → IsFree g new
 cleared_free g ps old new c a = record {
-  no_file = λ q listed file. elim (c.each q) [ inl same ↦ a.no_file q listed (ap is_leaf (sym same) ∙ file) | inr goes ↦ none_not_file goes.gone file ];
+  no_file =
+      λ q listed file. elim
+      (c.each q) [ inl same ↦ a.no_file q listed (ap is_leaf (sym same) ∙ file) | inr goes ↦ none_not_file goes.gone file ];
   nothing = λ q listed. elim (c.each q) [ inl same ↦ same ∙ a.nothing q listed | inr goes ↦ goes.gone ];
 }
 
@@ -81,11 +90,15 @@ dir_not_file e f = true≢false (sym f ∙ ap is_leaf e)
 module _ (g : Groups) (valid : IsValid g) where
   made_free : (old new : Standing) → Made g.dirs old new → IsFree g old → IsFree g new
   made_free old new m a = record {
-    no_file = λ q listed file. elim (m.each q) [ inl same ↦ a.no_file q listed (ap is_leaf (sym same) ∙ file) | inr makes ↦ dir_not_file makes.made file ];
-    nothing = λ q listed. elim (m.each q) [ inl same ↦ same ∙ a.nothing q listed | inr makes ↦ absurd (valid.wipes_no_dir q makes.listed listed) ];
+    no_file =
+        λ q listed file. elim
+        (m.each q) [ inl same ↦ a.no_file q listed (ap is_leaf (sym same) ∙ file) | inr makes ↦ dir_not_file makes.made file ];
+    nothing =
+        λ q listed. elim (m.each q) [ inl same ↦ same ∙ a.nothing q listed | inr makes ↦ absurd (valid.wipes_no_dir q makes.listed listed) ];
   }
 
-  moved_free : (some : List Move) → ((m : Move) → IsMember m some → IsMember m g.puts) → (old new : Standing) → Moved some old new → IsFree g old → IsFree g new
+  moved_free : (some : List Move) → ((m : Move) → IsMember m some → IsMember m g.puts) → (old new : Standing) → Moved some old new
+      → IsFree g old → IsFree g new
   moved_free some sub old new m a = record {
     no_file = λ q listed file. elim (m.each q) [
       | inl same ↦ a.no_file q listed (ap is_leaf (sym same) ∙ file)
@@ -108,7 +121,9 @@ module _ (g : Groups) (valid : IsValid g) where
       let d = dropped g.drops t in
       let w = wiped g.wipes (dropped_tree g t) in
       record {
-        no_file = λ q listed file. elim (w.each q) [ inl same ↦ d.gone q listed (ap is_leaf (sym same) ∙ file) | inr gone ↦ none_not_file gone.1 file ];
+        no_file =
+            λ q listed file. elim
+            (w.each q) [ inl same ↦ d.gone q listed (ap is_leaf (sym same) ∙ file) | inr gone ↦ none_not_file gone.1 file ];
         nothing = w.gone;
       }
 
@@ -139,7 +154,9 @@ module _ (g : Groups) (valid : IsValid g) where
     done_free = cleared_free g g.second _ _ second_cleared put_tree_free
 
     -- a directory that is there once all are made was made, or holds what doesn't go
-    made_held : (q : Path) → is_listed q g.first ≡ true → node_at (made_tree g t) q ≡ Some node.Dir → ((is_listed q g.dirs ≡ true) × (node_at (made_tree g t) (parent q) ≡ Some node.Dir)) ⊎ ((r : Path) × (is_over q r ≡ true) × Solid g.first (node_at (wiped_tree g t)) r × (node_at (cleared_tree g t) r ≡ node_at (wiped_tree g t) r) × (node_at (made_tree g t) r ≡ node_at (wiped_tree g t) r))
+    made_held : (q : Path) → is_listed q g.first ≡ true → node_at (made_tree g t) q ≡ Some node.Dir
+        → ((is_listed q g.dirs ≡ true) × (node_at (made_tree g t) (parent q) ≡ Some node.Dir)) ⊎
+        ((r : Path) × (is_over q r ≡ true) × Solid g.first (node_at (wiped_tree g t)) r × (node_at (cleared_tree g t) r ≡ node_at (wiped_tree g t) r) × (node_at (made_tree g t) r ≡ node_at (wiped_tree g t) r))
     made_held q listed dir = elim (dirs_made.each q) [
       | inr makes ↦ inl (makes.listed, makes.above)
       | inl same ↦
@@ -149,7 +166,9 @@ module _ (g : Groups) (valid : IsValid g) where
     ]
 
     -- with some of the moves done
-    moved_held : (some : List Move) → ((m : Move) → IsMember m some → IsMember m g.puts) → (look : Standing) → Moved some (node_at (made_tree g t)) look → (q : Path) → is_listed q g.first ≡ true → look q ≡ Some node.Dir → ((is_listed q g.dirs ≡ true) × (look (parent q) ≡ Some node.Dir)) ⊎ Holds g.first look q
+    moved_held : (some : List Move) → ((m : Move) → IsMember m some → IsMember m g.puts) → (look : Standing)
+        → Moved some (node_at (made_tree g t)) look → (q : Path) → is_listed q g.first ≡ true → look q ≡ Some node.Dir
+        → ((is_listed q g.dirs ≡ true) × (look (parent q) ≡ Some node.Dir)) ⊎ Holds g.first look q
     moved_held some sub look m q listed dir =
         elim (made_held q listed (dir_is _ (sym (moved_dir some _ _ m q) ∙ dir_test _ dir))) [
           | inl made ↦ inl (made.0, dir_is _ (moved_dir some _ _ m (parent q) ∙ dir_test _ made.1))
@@ -166,7 +185,9 @@ module _ (g : Groups) (valid : IsValid g) where
           })
         ]
 
-    moved_full : (some : List Move) → ((m : Move) → IsMember m some → IsMember m g.puts) → (look : Standing) → Moved some (node_at (made_tree g t)) look → (q : Path) → is_listed q g.dirs ≡ true → look (parent q) ≡ Some node.Dir → look q ≡ None → ⊥
+    moved_full : (some : List Move) → ((m : Move) → IsMember m some → IsMember m g.puts) → (look : Standing)
+        → Moved some (node_at (made_tree g t)) look → (q : Path) → is_listed q g.dirs ≡ true → look (parent q) ≡ Some node.Dir
+        → look q ≡ None → ⊥
     moved_full some sub look m q listed above none = elim (m.each q) [
       | inl same ↦ dirs_made.full q listed (dir_is _ (sym (moved_dir some _ _ m (parent q)) ∙ dir_test _ above)) (sym same ∙ none)
       | inr changed ↦ elim changed.1 [
@@ -180,7 +201,9 @@ module _ (g : Groups) (valid : IsValid g) where
 
     again : (whole end : Standing) (u : Tree) → IsReached g.first g.dirs whole end (node_at u) → Between whole end (node_at (again_dirs u))
     unfolding again_dirs
-    again whole end u reached = reached_again g.first g.dirs whole end (node_at u) reached _ _ (cleared g.first u valid.first_order) (made g.dirs (in_turn drop_dir_at g.first u) valid.dirs_order valid.dirs_root) valid.first_root valid.dirs_root over_parent
+    again whole end u reached =
+        reached_again g.first g.dirs whole end (node_at u) reached _ _ (cleared g.first u valid.first_order)
+        (made g.dirs (in_turn drop_dir_at g.first u) valid.dirs_order valid.dirs_root) valid.first_root valid.dirs_root over_parent
 
     same_between : (look : Standing) (u : Tree) → Between look look (node_at u) → (q : Path) → node_at u q ≡ look q
     same_between look u between q = elim (between q) [ inl a ↦ a | inr b ↦ b ]
@@ -191,7 +214,9 @@ module _ (g : Groups) (valid : IsValid g) where
 
     from_third : (u : Tree) → IsFree g (node_at u) → done g u ≡ rest_of u
     unfolding rest_of again_dirs
-    from_third u free = ap (λ v. in_turn drop_dir_at g.second (in_turn move_at g.puts (in_turn make_dir_at g.dirs (in_turn drop_dir_at g.first v)))) (free_start u free)
+    from_third u free =
+        ap (λ v. in_turn drop_dir_at g.second (in_turn move_at g.puts (in_turn make_dir_at g.dirs (in_turn drop_dir_at g.first v))))
+        (free_start u free)
 
     in_dirs_once : (u : Tree) → Between (node_at (cleared_tree g t)) (node_at (made_tree g t)) (node_at u) → done g u ≡ done g t
     unfolding rest_of
@@ -200,20 +225,23 @@ module _ (g : Groups) (valid : IsValid g) where
         ∙ ap (λ v. in_turn drop_dir_at g.second (in_turn move_at g.puts v)) (same_tree _ _ (same_between _ _ (again (node_at (made_tree g t)) (node_at (made_tree g t)) u (record {
           each = λ q. elim (between q) [
             | inr now ↦ inl (inl now)
-            | inl was ↦ elim (dirs_made.each q) [ inl same ↦ inl (inl (was ∙ sym same)) | inr makes ↦ inr (makes.listed, makes.made, was ∙ makes.was, makes.above) ]
+            | inl was ↦
+                elim (dirs_made.each q) [ inl same ↦ inl (inl (was ∙ sym same)) | inr makes ↦ inr (makes.listed, makes.made, was ∙ makes.was, makes.above) ]
           ];
           held = λ q listed dir. elim (made_held q listed (elim (between q) [
             | inr now ↦ sym now ∙ dir
             | inl was ↦ elim (dirs_made.each q) [ inl same ↦ same ∙ sym was ∙ dir | inr makes ↦ makes.made ]
           ])) [
             | inl made ↦ inl made
-            | inr w ↦ inr (record { path = w.0; under = w.1; solid = solid_same g.first _ _ w.0 (elim (between w.0) [ inl was ↦ was ∙ w.3 | inr now ↦ now ∙ w.4 ]) w.2 })
+            | inr w ↦
+                inr (record { path = w.0; under = w.1; solid = solid_same g.first _ _ w.0 (elim (between w.0) [ inl was ↦ was ∙ w.3 | inr now ↦ now ∙ w.4 ]) w.2 })
           ];
           full = dirs_made.full;
           ends = λ q. inl refl;
         }))))
 
-    in_puts_once : (some : List Move) → ((m : Move) → IsMember m some → IsMember m g.puts) → done g (in_turn move_at some (made_tree g t)) ≡ done g t
+    in_puts_once : (some : List Move) → ((m : Move) → IsMember m some → IsMember m g.puts)
+        → done g (in_turn move_at some (made_tree g t)) ≡ done g t
     unfolding rest_of
     in_puts_once some sub =
         let u = in_turn move_at some (made_tree g t) in
@@ -232,12 +260,15 @@ module _ (g : Groups) (valid : IsValid g) where
     in_second_once u between =
         let m = moved g.puts (made_tree g t) in
         let c = second_cleared in
-        let between_dir : (look : Standing) → Between (node_at (put_tree g t)) (node_at (done g t)) look → (q : Path) → look q ≡ Some node.Dir → node_at (put_tree g t) q ≡ Some node.Dir = λ look b q dir. elim (b q) [
+        let between_dir : (look : Standing) → Between (node_at (put_tree g t)) (node_at (done g t)) look →
+        (q : Path) → look q ≡ Some node.Dir → node_at (put_tree g t) q ≡ Some node.Dir =
+        λ look b q dir. elim (b q) [
           | inl was ↦ sym was ∙ dir
           | inr now ↦ elim (c.each q) [ inl same ↦ sym same ∙ sym now ∙ dir | inr goes ↦ goes.was ]
         ] in
         let v = again_dirs u in
-        let reaches : Between (node_at (put_tree g t)) (node_at (done g t)) (node_at v) = again (node_at (put_tree g t)) (node_at (done g t)) u (record {
+        let reaches : Between (node_at (put_tree g t)) (node_at (done g t)) (node_at v) =
+        again (node_at (put_tree g t)) (node_at (done g t)) u (record {
           each = λ q. inl (between q);
           held = λ q listed dir. elim (moved_held g.puts (λ k in_it. in_it) _ m q listed (between_dir (node_at u) between q dir)) [
             | inl made ↦ inl made
@@ -264,11 +295,13 @@ module _ (g : Groups) (valid : IsValid g) where
         let inner = and_parts _ _ parts.0 in
         let file : is_leaf (node_at (put_tree g t) k.0) ≡ true = elim (reaches k.0) [
           | inl was ↦ ap is_leaf (sym was) ∙ inner.0
-          | inr now ↦ elim (c.each k.0) [ inl same ↦ ap is_leaf (sym same ∙ sym now) ∙ inner.0 | inr goes ↦ absurd (none_not_file (now ∙ goes.gone) inner.0) ]
+          | inr now ↦
+              elim (c.each k.0) [ inl same ↦ ap is_leaf (sym same ∙ sym now) ∙ inner.0 | inr goes ↦ absurd (none_not_file (now ∙ goes.gone) inner.0) ]
         ] in
         let no_dir : not (is_dir (node_at (put_tree g t) k.1)) ≡ true = elim (reaches k.1) [
           | inl was ↦ ap (λ o. not (is_dir o)) (sym was) ∙ inner.1
-          | inr now ↦ elim (c.each k.1) [ inl same ↦ ap (λ o. not (is_dir o)) (sym same ∙ sym now) ∙ inner.1 | inr goes ↦ absurd (valid.no_second k in_it goes.listed) ]
+          | inr now ↦
+              elim (c.each k.1) [ inl same ↦ ap (λ o. not (is_dir o)) (sym same ∙ sym now) ∙ inner.1 | inr goes ↦ absurd (valid.no_second k in_it goes.listed) ]
         ] in
         let above = dir_test _ (between_dir (node_at v) reaches (parent k.1) (dir_is _ parts.1)) in
         true≢false (sym (and_from _ _ (and_from _ _ file no_dir) above) ∙ all_moved g.puts valid.apart k in_it (made_tree g t)))) in
@@ -277,7 +310,8 @@ module _ (g : Groups) (valid : IsValid g) where
         ∙ same_tree _ _ (cleared_again g.second (node_at (put_tree g t)) (node_at (done g t)) (node_at v) _ c (cleared g.second v valid.second_order) reaches)
 
 pub done_once : DoneOnce
-done_once g t u valid (in_drops between) = ap (λ v. in_turn drop_dir_at g.second (in_turn move_at g.puts (in_turn make_dir_at g.dirs (in_turn drop_dir_at g.first (in_turn wipe_at g.wipes v)))))
+done_once g t u valid (in_drops between) =
+    ap (λ v. in_turn drop_dir_at g.second (in_turn move_at g.puts (in_turn make_dir_at g.dirs (in_turn drop_dir_at g.first (in_turn wipe_at g.wipes v)))))
     (same_tree _ _ (dropped_again g.drops _ _ _ _ (dropped g.drops t) (dropped g.drops u) between))
 done_once g t u valid (in_wipes between) =
     let d = dropped g.drops t in

@@ -125,7 +125,7 @@ pub above_parent : (p : Path) → (p ≡ []) ⊎ (is_above (parent p) p ≡ true
 above_parent [] = inl refl
 above_parent (n ∷ ns) = inr (above_from (parent (n ∷ ns)) (n ∷ ns) (over_parent n ns) (above_parent_of n ns))
 
--- what is below a directory is at or below it, or in one that is
+-- a directory above a path is at or above the one that the path stands in
 pub above_up : (s : Path) (n : List ℕ) (ns : Path) → is_above s (n ∷ ns) ≡ true → is_over s (parent (n ∷ ns)) ≡ true
 above_up [] n ns h = refl
 above_up (a ∷ s) n [] h = absurd (none_above_root s (above_names a n s [] h).1)
@@ -138,7 +138,8 @@ pub listed_cons : (q p : Path) (ps : List Path) → is_listed q (p ∷ ps) ≡ t
 listed_cons q p ps h = elim (or_cases _ _ h) [ inl here ↦ inl (same_path-true q p here) | inr there ↦ inr there ]
 
 pub listed_more : (q p : Path) (ps : List Path) → is_listed q ps ≡ true → is_listed q (p ∷ ps) ≡ true
-listed_more q p ps h = elim (cases_Bool (same_path q p)) [ inl here ↦ ap (λ b. b || is_listed q ps) here | inr other ↦ ap (λ b. b || is_listed q ps) other ∙ h ]
+listed_more q p ps h =
+    elim (cases_Bool (same_path q p)) [ inl here ↦ ap (λ b. b || is_listed q ps) here | inr other ↦ ap (λ b. b || is_listed q ps) other ∙ h ]
 
 pub listed_first : (q p : Path) (ps : List Path) → q ≡ p → is_listed q (p ∷ ps) ≡ true
 listed_first q p ps same = ap (λ b. b || is_listed q ps) (ap (same_path q) (sym same) ∙ same_path-refl q)

@@ -75,7 +75,8 @@ build_parts r q h = by (store_path r q) refl h
     by None e is = absurd (true≢false (sym is))
     by (Some place) e is = build_place r q place e is
 
-pub build_from : (r : Roots) (q : Path) (m v : List ℕ) → is_key (key_of m v) ≡ true → is_over (build_at r m v) q ≡ true → is_in_scratch (store_path r q) ≡ true
+pub build_from : (r : Roots) (q : Path) (m v : List ℕ) → is_key (key_of m v) ≡ true → is_over (build_at r m v) q ≡ true
+    → is_in_scratch (store_path r q) ≡ true
 build_from r q m v keyed over =
     let rest : Path = drop (length (build_at r m v)) q in
     let is : q ≡ path_of r (InScratch (key_of m v) rest) = under-split q (build_at r m v) over ∙ sym (build_is r m v rest) in

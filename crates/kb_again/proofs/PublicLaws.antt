@@ -1,5 +1,5 @@
 -- Steps from the front, and public trees.
-use Rattle.std.proofs.Common.{◌≡◌, ◌⊎◌, inl, inr, ◌+◌, Bool, true, false, not, cond, ◌&&◌, List, [], ◌∷◌, ◌++◌, map, length, nat_eq, refl, sym, ap, ◌∙◌, subst, Option, None, eq-eqb}
+use Rattle.std.proofs.Common.{◌≡◌, inl, inr, ◌+◌, Bool, true, false, not, cond, ◌&&◌, List, [], ◌∷◌, ◌++◌, map, length, nat_eq, refl, sym, ap, ◌∙◌, subst, Option, None, eq-eqb}
 use Rattle.std.proofs.lemmas.Bool.{cases_Bool, and_from, and_cases, or_left}
 use Rattle.kb_world.specs.Path.{Path, is_under}
 use Rattle.kb_world.specs.Public.{is_public, is_loose, public_tree}
@@ -15,16 +15,16 @@ use Rattle.kb_changes.specs.Valid.{is_initrd, written_roots}
 use Rattle.kb_again.proofs.EditLaws.{dir_is}
 use Rattle.kb_again.proofs.Ends.{in_turn, is_under_one}
 use Rattle.kb_again.proofs.Facts.{AreRoots, Lists, groups_of, is_open, is_beside, is_steady, IsValidUnder}
-use Rattle.kb_again.proofs.Flat.{Act, to_drop, to_wipe, to_drop_dir, to_make, to_put, do_act, do_acts, acts_of}
-use Rattle.kb_again.proofs.FrontLaws.{in_turn-append, all_done, front_is_part}
+use Rattle.kb_again.proofs.Flat.{Act, to_drop, to_wipe, to_drop_dir, to_make, to_put, do_act, acts_of}
+use Rattle.kb_again.proofs.FrontLaws.{in_turn-append, all_done}
 use Rattle.kb_again.proofs.Kept.{SameOn, SameDirs, IsWhole}
-use Rattle.kb_again.proofs.KeptLaws.{drops_whole, wipes_whole, drop_dir_whole, make_dir_whole, move_whole, turn_whole}
+use Rattle.kb_again.proofs.KeptLaws.{drops_whole, wipes_whole, drop_dir_whole, make_dir_whole, move_whole}
 use Rattle.kb_again.proofs.PathLaws.{and_false}
 use Rattle.kb_again.proofs.PlaceLaws.{initrd_child}
 use Rattle.kb_again.proofs.RootLaws.{length_child}
 use Rattle.kb_again.proofs.RunLaws.{left_same}
-use Rattle.kb_again.proofs.Steps.{Step, act, run, do_step, do_steps, steps_of, run_request, after_runs, after_all, IsBehind, among_groups, among_runs}
-use Rattle.kb_again.proofs.ValidLaws.{groups_valid, not_false}
+use Rattle.kb_again.proofs.Steps.{Step, act, run, do_step, do_steps, steps_of, run_request, after_runs, after_all, IsBehind}
+use Rattle.kb_again.proofs.ValidLaws.{not_false}
 use Rattle.kb_again.proofs.WriteLaws.{run_whole}
 
 change_whole : (c : Act) (t : Tree) → IsWhole t → IsWhole (do_act c t)
@@ -34,49 +34,17 @@ change_whole (to_drop_dir p) t whole = drop_dir_whole p t whole
 change_whole (to_make p) t whole = make_dir_whole p t whole
 change_whole (to_put staged target) t whole = move_whole (staged, target) t whole
 
-pub turn_map : {A B : Type 0} (h : A → B) (k : B → Tree → Tree) (xs : List A) (t : Tree) → in_turn k (map h xs) t ≡ in_turn (λ x. k (h x)) xs t
+pub turn_map : {A B : Type 0} (h : A → B) (k : B → Tree → Tree) (xs : List A) (t : Tree)
+    → in_turn k (map h xs) t ≡ in_turn (λ x. k (h x)) xs t
 turn_map h k [] t = refl
 turn_map h k (x ∷ xs) t = turn_map h k xs (k (h x) t)
 
-split_at_end : {A : Type 0} (front back xs ys : List A) → front ++ back ≡ xs ++ ys → ((more : List A) × (front ++ more ≡ xs)) ⊎ ((later : List A) × (front ≡ xs ++ later) × (later ++ back ≡ ys))
-split_at_end front back [] ys e = inr (front, refl, e)
-split_at_end [] back (x ∷ xs) ys e = inl (x ∷ xs, refl)
-split_at_end (c ∷ front) back (x ∷ xs) ys e =
-    let head : c ≡ x = cc in
-    let tail : front ++ back ≡ xs ++ ys = cc in
-    elim (split_at_end front back xs ys tail) [
-      | inl more ↦ inl (more.0, (λ i. head i ∷ more.1 i))
-      | inr later ↦ inr (later.0, (λ i. head i ∷ later.1 i), later.2)
-    ]
-
-map_split : {A B : Type 0} (h : A → B) (front more : List B) (ps : List A) → front ++ more ≡ map h ps → (taken : List A) × (left : List A) × (taken ++ left ≡ ps) × (front ≡ map h taken)
-map_split h [] more ps e = ([], ps, refl, refl)
-map_split h (c ∷ front) more [] e = absurd (cc)
-map_split h (c ∷ front) more (p ∷ ps) e =
-    let head : c ≡ h p = cc in
-    let tail : front ++ more ≡ map h ps = cc in
-    let rest = map_split h front more ps tail in
-    (p ∷ rest.0, rest.1, ap (λ l. p ∷ l) rest.2, λ i. head i ∷ rest.3 i)
-
-pub steps_all : (f : Script) (r : Roots) (s : Lists) (rs : List Request) (t : Tree) → do_steps f r (map act (acts_of (groups_of r s)) ++ map run rs) t ≡ after_runs f r s rs t
+pub steps_all : (f : Script) (r : Roots) (s : Lists) (rs : List Request) (t : Tree)
+    → do_steps f r (map act (acts_of (groups_of r s)) ++ map run rs) t ≡ after_runs f r s rs t
 steps_all f r s rs t =
     in_turn-append (do_step f r) (map act (acts_of (groups_of r s))) (map run rs) t
     ∙ turn_map run (do_step f r) rs (do_steps f r (map act (acts_of (groups_of r s))) t)
     ∙ ap (in_turn (run_request f r) rs) (turn_map act (do_step f r) (acts_of (groups_of r s)) t ∙ all_done (groups_of r s) t)
-
-pub front_left : (f : Script) (r : Roots) (s : Lists) (front back : List Step) (t : Tree) → AreRoots r → IsValidUnder r s → IsWhole t → front ++ back ≡ steps_of r s → IsBehind f r s t (do_steps f r front t)
-front_left f r s front back t roots valid whole e =
-    let cs = acts_of (groups_of r s) in
-    elim (split_at_end front back (map act cs) (map run s.runs) e) [
-      | inl more ↦
-          let w = map_split act front more.0 cs more.1 in
-          let is : do_steps f r front t ≡ do_acts w.0 t = ap (λ xs. do_steps f r xs t) w.3 ∙ turn_map act (do_step f r) w.0 t in
-          subst (IsBehind f r s t) (sym is) (among_groups (do_acts w.0 t) (front_is_part (groups_of r s) w.0 w.1 t (groups_valid r s roots valid) w.2) (turn_whole do_act change_whole w.0 t whole) (λ q open_q. inl refl) (λ q is. refl) (λ c h. refl))
-      | inr later ↦
-          let w = map_split run later.0 back s.runs later.2 in
-          let is : do_steps f r front t ≡ after_runs f r s w.0 t = ap (λ xs. do_steps f r xs t) (later.1 ∙ ap (λ l. map act cs ++ l) w.3) ∙ steps_all f r s w.0 t in
-          subst (IsBehind f r s t) (sym is) (among_runs w.0 w.1 w.2 (λ q open_q. inl refl) (λ q is. refl) (λ c h. inl refl))
-    ]
 
 -- ---- public trees
 
@@ -95,15 +63,18 @@ initrd_loose : (r : Roots) (q : Path) (o : Option Node) → is_initrd r q ≡ tr
 initrd_loose r q o is file =
     let w = initrd_child r q is in
     let under : is_under q r.boot ≡ true = subst (λ x. is_under x r.boot ≡ true) (sym w.1) (under-append r.boot (w.0 ∷ [])) in
-    let deep : nat_eq (length q) (length r.boot + 1) ≡ true = eq-eqb (length q) (length r.boot + 1) (ap length w.1 ∙ length_child r.boot w.0) in
+    let deep : nat_eq (length q) (length r.boot + 1) ≡ true =
+    eq-eqb (length q) (length r.boot + 1) (ap length w.1 ∙ length_child r.boot w.0) in
     and_from _ _ (and_from _ _ under deep) (ap not file)
 
 pub public_same : (r : Roots) (t u : Tree) → SameOn (is_steady r) t u → SameDirs (is_beside r) t u → public_tree r t ≡ public_tree r u
 public_same r t u same dirs = same_tree _ _ (λ q.
     let written = is_under_one (written_roots r) q in
-    let beyond : (v : Tree) → written ≡ false → node_at (public_tree r v) q ≡ None = λ v out. hidden_there r v q (ap (λ b. (b && is_open r q) && not (is_loose r q (node_at v q))) out) in
+    let beyond : (v : Tree) → written ≡ false → node_at (public_tree r v) q ≡ None =
+    λ v out. hidden_there r v q (ap (λ b. (b && is_open r q) && not (is_loose r q (node_at v q))) out) in
     let none : (v : Tree) → is_open r q ≡ false → node_at (public_tree r v) q ≡ None = λ v out.
-    hidden_there r v q (ap (λ b. (written && b) && not (is_loose r q (node_at v q))) out ∙ no_second written (not (is_loose r q (node_at v q)))) in
+    hidden_there r v q
+    (ap (λ b. (written && b) && not (is_loose r q (node_at v q))) out ∙ no_second written (not (is_loose r q (node_at v q)))) in
     let loose : (v : Tree) → is_loose r q (node_at v q) ≡ true → node_at (public_tree r v) q ≡ None = λ v is.
     hidden_there r v q (ap (λ b. (written && is_open r q) && not b) is ∙ and_false (written && is_open r q)) in
     elim (cases_Bool (is_steady r q)) [
@@ -117,13 +88,15 @@ public_same r t u same dirs = same_tree _ _ (λ q.
               let alike = dirs q (or_left _ _ is) in
               elim (cases_Bool (is_dir (node_at t q))) [
                 | inl dir ↦ shown_alike r t u q (dir_is _ dir ∙ sym (dir_is _ (sym alike ∙ dir)))
-                | inr file ↦ loose t (initrd_loose r q (node_at t q) is file) ∙ sym (loose u (initrd_loose r q (node_at u q) is (sym alike ∙ file)))
+                | inr file ↦
+                    loose t (initrd_loose r q (node_at t q) is file) ∙ sym (loose u (initrd_loose r q (node_at u q) is (sym alike ∙ file)))
               ]
         ]
       ]
     ])
 
-pub public_left : (f : Script) (r : Roots) (s : Lists) (t u : Tree) → AreRoots r → IsValidUnder r s → IsWhole t → IsWhole u → IsBehind f r s t u
+pub public_left : (f : Script) (r : Roots) (s : Lists) (t u : Tree) → AreRoots r → IsValidUnder r s → IsWhole t → IsWhole u
+    → IsBehind f r s t u
     → public_tree r (do_steps f r (steps_of r s) u) ≡ public_tree r (do_steps f r (steps_of r s) t)
 public_left f r s t u roots valid whole whole_u left =
     let same = left_same r s roots valid f t u whole whole_u left in

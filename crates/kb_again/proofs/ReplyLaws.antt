@@ -41,7 +41,8 @@ requests_are r f (Drop path ∷ cs) t = requests_are r f cs (do_change r f (Drop
 requests_are r f (DropDir path ∷ cs) t = requests_are r f cs (do_change r f (DropDir path) t)
 requests_are r f (Wipe path ∷ cs) t = requests_are r f cs (do_change r f (Wipe path) t)
 requests_are r f (Run request ∷ cs) t =
-    ap (λ l. asked request t ++ l) (ap (requests_of r f cs) (change_same r f (Run request) t) ∙ requests_are r f cs (run_request f r request t))
+    ap (λ l. asked request t ++ l)
+    (ap (requests_of r f cs) (change_same r f (Run request) t) ∙ requests_are r f cs (run_request f r request t))
 
 replies_are : (r : Roots) (f : Script) (cs : List Change) (t : Tree) → replies_of r f cs t ≡ step_replies f r (map (step_of r) cs) t
 unfolding step_replies
@@ -52,15 +53,18 @@ replies_are r f (Drop path ∷ cs) t = replies_are r f cs (do_change r f (Drop p
 replies_are r f (DropDir path ∷ cs) t = replies_are r f cs (do_change r f (DropDir path) t)
 replies_are r f (Wipe path ∷ cs) t = replies_are r f cs (do_change r f (Wipe path) t)
 replies_are r f (Run request ∷ cs) t =
-    ap (λ l. map (reply_to r f t) (asked request t) ++ l) (ap (replies_of r f cs) (change_same r f (Run request) t) ∙ replies_are r f cs (run_request f r request t))
+    ap (λ l. map (reply_to r f t) (asked request t) ++ l)
+    (ap (replies_of r f cs) (change_same r f (Run request) t) ∙ replies_are r f cs (run_request f r request t))
 
 -- acts ask for nothing
-acts_then : (f : Script) (r : Roots) (acts : List Act) (xs : List Step) (t : Tree) → step_requests f r (map act acts ++ xs) t ≡ step_requests f r xs (do_acts acts t)
+acts_then : (f : Script) (r : Roots) (acts : List Act) (xs : List Step) (t : Tree)
+    → step_requests f r (map act acts ++ xs) t ≡ step_requests f r xs (do_acts acts t)
 unfolding step_requests
 acts_then f r [] xs t = refl
 acts_then f r (c ∷ acts) xs t = acts_then f r acts xs (do_act c t)
 
-acts_then_replies : (f : Script) (r : Roots) (acts : List Act) (xs : List Step) (t : Tree) → step_replies f r (map act acts ++ xs) t ≡ step_replies f r xs (do_acts acts t)
+acts_then_replies : (f : Script) (r : Roots) (acts : List Act) (xs : List Step) (t : Tree)
+    → step_replies f r (map act acts ++ xs) t ≡ step_replies f r xs (do_acts acts t)
 unfolding step_replies
 acts_then_replies f r [] xs t = refl
 acts_then_replies f r (c ∷ acts) xs t = acts_then_replies f r acts xs (do_act c t)
@@ -68,7 +72,9 @@ acts_then_replies f r (c ∷ acts) xs t = acts_then_replies f r acts xs (do_act 
 runs_ask : (f : Script) (r : Roots) (cs : List Request) (t : Tree) → step_requests f r (map run cs) t ≡ runs_made f r cs t
 unfolding step_requests
 runs_ask f r [] t = refl
-runs_ask f r (c ∷ cs) t = ap (λ l. asked c t ++ l) (runs_ask f r cs (run_request f r c t)) ∙ by (is_dir (node_at t c.dir)) (runs_made f r cs (run_request f r c t))
+runs_ask f r (c ∷ cs) t =
+    ap (λ l. asked c t ++ l) (runs_ask f r cs (run_request f r c t))
+    ∙ by (is_dir (node_at t c.dir)) (runs_made f r cs (run_request f r c t))
   where
     by : (b : Bool) (l : List Request) → cond b (c ∷ []) [] ++ l ≡ cond b (c ∷ l) l
     by true l = refl
@@ -78,7 +84,8 @@ runs_reply : (f : Script) (r : Roots) (cs : List Request) (t : Tree) → step_re
 unfolding step_replies
 runs_reply f r [] t = refl
 runs_reply f r (c ∷ cs) t =
-    ap (λ l. map (reply_to r f t) (asked c t) ++ l) (runs_reply f r cs (run_request f r c t)) ∙ by (is_dir (node_at t c.dir)) (run_replies f r cs (run_request f r c t))
+    ap (λ l. map (reply_to r f t) (asked c t) ++ l) (runs_reply f r cs (run_request f r c t))
+    ∙ by (is_dir (node_at t c.dir)) (run_replies f r cs (run_request f r c t))
   where
     by : (b : Bool) (l : List Reply) → map (reply_to r f t) (cond b (c ∷ []) []) ++ l ≡ cond b (reply_to r f t c ∷ l) l
     by true l = refl
@@ -89,12 +96,14 @@ pub requests_made : (r : Roots) (f : Script) (cs : List Change) (t : Tree) → i
 requests_made r f cs t valid =
     let s = lists_of cs in
     requests_are r f cs t ∙ ap (λ xs. step_requests f r xs t) (steps_are r cs valid)
-    ∙ acts_then f r (acts_of (groups_of r s)) (map run s.runs) t ∙ ap (step_requests f r (map run s.runs)) (all_done (groups_of r s) t) ∙ runs_ask f r s.runs (done (groups_of r s) t)
+    ∙ acts_then f r (acts_of (groups_of r s)) (map run s.runs) t ∙ ap (step_requests f r (map run s.runs)) (all_done (groups_of r s) t)
+    ∙ runs_ask f r s.runs (done (groups_of r s) t)
 
 pub replies_made : (r : Roots) (f : Script) (cs : List Change) (t : Tree) → is_valid r cs ≡ true
     → replies_of r f cs t ≡ run_replies f r (lists_of cs).runs (done (groups_of r (lists_of cs)) t)
 replies_made r f cs t valid =
     let s = lists_of cs in
     replies_are r f cs t ∙ ap (λ xs. step_replies f r xs t) (steps_are r cs valid)
-    ∙ acts_then_replies f r (acts_of (groups_of r s)) (map run s.runs) t ∙ ap (step_replies f r (map run s.runs)) (all_done (groups_of r s) t)
+    ∙ acts_then_replies f r (acts_of (groups_of r s)) (map run s.runs) t
+    ∙ ap (step_replies f r (map run s.runs)) (all_done (groups_of r s) t)
     ∙ runs_reply f r s.runs (done (groups_of r s) t)

@@ -15,7 +15,7 @@ use Rattle.kb_changes.specs.declared.change.RootName.TheVariants as root_name
 use Rattle.kb_again.proofs.Ends.{is_under_one}
 use Rattle.kb_again.proofs.Facts.{all_roots, AreDisjoint, AreRoots, staging_paths, untouched, is_open}
 use Rattle.kb_again.proofs.FrontLaws.{listed_left}
-use Rattle.kb_again.proofs.KeptLaws.{wiped_under}
+use Rattle.kb_again.proofs.KeptLaws.{one_above}
 use Rattle.kb_again.proofs.PathLaws.{is_over, is_above, is_listed, bytes_itself, over_itself, over_over, above_over, over_cases, not_above_itself, above_over_above, above_from, none_above_root, above_names, above_cons, above_parent, above_up, listed_cons, listed_more, listed_first}
 use Rattle.kb_again.proofs.PlaceLaws.{build_parts, build_from}
 
@@ -81,7 +81,8 @@ length_over (x ∷ a) (y ∷ b) h = omega (arith, length_over a b (and_parts _ _
 pub length_child : (h : Path) (n : List ℕ) → length (child h n) ≡ length h + 1
 length_child h n = length-append h (n ∷ [])
 
--- at or below some path of a list
+-- ---- at or below some path of a list
+
 pub inside : (hs : List Path) (h q : Path) → is_listed h hs ≡ true → is_over h q ≡ true → is_under_one hs q ≡ true
 inside [] h q is under = absurd (true≢false (sym is))
 inside (p ∷ hs) h q is under = elim (listed_cons h p hs is) [
@@ -100,7 +101,7 @@ inside_some (p ∷ hs) q e = elim (or_cases _ _ e) [
 
 pub private_under : (r : Roots) (q x : Path) → is_over q x ≡ true → is_private r q ≡ true → is_private r x ≡ true
 private_under r q x under e = elim (or_cases _ _ e) [
-  | inl head ↦ or_left _ _ (wiped_under (private_places r) q x under head)
+  | inl head ↦ or_left _ _ (one_above (private_places r) q x under head)
   | inr build ↦ let w = build_parts r q build in or_right _ _ (build_from r x w.0 w.1 w.2 (over_over _ q x w.3 under))
 ]
 
@@ -113,8 +114,9 @@ open_from r q h = ap not (false_from_ne_true _ h)
 pub private_from : (r : Roots) (q : Path) → is_open r q ≡ false → is_private r q ≡ true
 private_from r q e = elim (cases_Bool (is_private r q)) [ inl is ↦ is | inr out ↦ absurd (true≢false (sym (ap not out) ∙ e)) ]
 
--- roots
-pub disjoint_below : (ps : List Path) → AreDisjoint ps → (x y : Path) → is_listed x ps ≡ true → is_listed y ps ≡ true → is_above x y ≡ true → ⊥
+-- of paths that are apart none is below another
+pub disjoint_below : (ps : List Path) → AreDisjoint ps → (x y : Path) → is_listed x ps ≡ true → is_listed y ps ≡ true → is_above x y ≡ true
+    → ⊥
 disjoint_below [] d x y hx hy below = true≢false (sym hx)
 disjoint_below (p ∷ ps) d x y hx hy below = elim (listed_cons x p ps hx) [
   | inl x_is ↦ elim (listed_cons y p ps hy) [
@@ -129,7 +131,8 @@ disjoint_below (p ∷ ps) d x y hx hy below = elim (listed_cons x p ps hx) [
 
 -- ---- roots
 
-apart_each : (p : Path) (ps : List Path) → list_all (are_apart p) ps ≡ true → (q : Path) → is_listed q ps ≡ true → (is_over p q ≡ true → ⊥) × (is_over q p ≡ true → ⊥)
+apart_each : (p : Path) (ps : List Path) → list_all (are_apart p) ps ≡ true → (q : Path) → is_listed q ps ≡ true
+    → (is_over p q ≡ true → ⊥) × (is_over q p ≡ true → ⊥)
 apart_each p ps h q listed =
     let both = and_parts (not (is_under p q)) (not (is_under q p)) (of_all (are_apart p) ps h q listed) in
     ((λ over. true≢false (sym both.1 ∙ ap not over)), (λ over. true≢false (sym both.0 ∙ ap not over)))
@@ -155,12 +158,6 @@ is_root r root_name.Src = at_2 r.boot r.dkms r.src (r.modules ∷ read_roots r)
 is_root r root_name.Modules = at_3 r.boot r.dkms r.src r.modules (read_roots r)
 is_root r root_name.Boot = at_0 r.boot (based_roots r)
 
-pub is_written_root : (r : Roots) (name : RootName) → is_listed (root_path r name) (written_roots r) ≡ true
-is_written_root r root_name.Dkms = at_0 r.dkms (r.src ∷ r.modules ∷ r.boot ∷ [])
-is_written_root r root_name.Src = at_1 r.dkms r.src (r.modules ∷ r.boot ∷ [])
-is_written_root r root_name.Modules = at_2 r.dkms r.src r.modules (r.boot ∷ [])
-is_written_root r root_name.Boot = at_3 r.dkms r.src r.modules r.boot []
-
 -- one of the four
 pub root_named : (r : Roots) (x : Path) → is_listed x (written_roots r) ≡ true → (name : RootName) × (x ≡ root_path r name)
 root_named r x h = elim (listed_cons x r.dkms (r.src ∷ r.modules ∷ r.boot ∷ []) h) [
@@ -179,9 +176,6 @@ root_named r x h = elim (listed_cons x r.dkms (r.src ∷ r.modules ∷ r.boot �
 
 pub written_is_root : (r : Roots) (x : Path) → is_listed x (written_roots r) ≡ true → is_listed x (all_roots r) ≡ true
 written_is_root r x h = let w = root_named r x h in subst (λ y. is_listed y (all_roots r) ≡ true) (sym w.1) (is_root r w.0)
-
-pub root_disjoint : (r : Roots) → AreRoots r → (a b : RootName) → is_above (root_path r a) (root_path r b) ≡ true → ⊥
-root_disjoint r roots a b = disjoint_below (all_roots r) roots.disjoint (root_path r a) (root_path r b) (is_root r a) (is_root r b)
 
 -- no other root is at or above the boot root
 pub not_over_boot : (r : Roots) → AreRoots r → (x : Path) → is_listed x (based_roots r) ≡ true → is_over x r.boot ≡ true → ⊥
@@ -203,7 +197,8 @@ pub base_above : (r : Roots) → AreRoots r → is_above r.base r.dkms ≡ true
 base_above r roots = roots.below r.dkms (at_0 r.dkms (r.src ∷ r.modules ∷ read_roots r))
 
 pub not_at_root : (r : Roots) → AreRoots r → (q y : Path) → IsBelowRoot r q → is_listed y (all_roots r) ≡ true → is_over q y ≡ true → ⊥
-not_at_root r roots q y below is under = disjoint_below (all_roots r) roots.disjoint below.0 y below.1 is (above_over_above below.0 q y below.2 under)
+not_at_root r roots q y below is under =
+    disjoint_below (all_roots r) roots.disjoint below.0 y below.1 is (above_over_above below.0 q y below.2 under)
 
 pub is_staging : (r : Roots) (name : RootName) → is_listed (staging_path (root_path r name)) (staging_paths r) ≡ true
 is_staging r root_name.Dkms = at_0 (staging_path r.dkms) (staging_path r.src ∷ staging_path r.modules ∷ staging_path r.boot ∷ [])
@@ -232,27 +227,29 @@ private_entry r h e = elim (listed_cons h (intent_path r) (new_intent_path r ∷
   | inl is ↦ (r.dkms, codes ".intent", is_root r root_name.Dkms, is)
   | inr e1 ↦ elim (listed_cons h (new_intent_path r) (staging_paths r ++ plugins_path r ∷ []) e1) [
     | inl is ↦ (r.dkms, codes ".intent.new", is_root r root_name.Dkms, is)
-    | inr e2 ↦ elim (listed_cons h (staging_path r.dkms) (staging_path r.src ∷ staging_path r.modules ∷ staging_path r.boot ∷ plugins_path r ∷ []) e2) [
-      | inl is ↦ (r.dkms, codes ".kb-staged", is_root r root_name.Dkms, is)
-      | inr e3 ↦ elim (listed_cons h (staging_path r.src) (staging_path r.modules ∷ staging_path r.boot ∷ plugins_path r ∷ []) e3) [
-        | inl is ↦ (r.src, codes ".kb-staged", is_root r root_name.Src, is)
-        | inr e4 ↦ elim (listed_cons h (staging_path r.modules) (staging_path r.boot ∷ plugins_path r ∷ []) e4) [
-          | inl is ↦ (r.modules, codes ".kb-staged", is_root r root_name.Modules, is)
-          | inr e5 ↦ elim (listed_cons h (staging_path r.boot) (plugins_path r ∷ []) e5) [
-            | inl is ↦ (r.boot, codes ".kb-staged", is_root r root_name.Boot, is)
-            | inr e6 ↦ elim (listed_cons h (plugins_path r) [] e6) [
-              | inl is ↦ (r.boot, codes ".kb-plugins", is_root r root_name.Boot, is)
-              | inr e7 ↦ absurd (true≢false (sym e7))
+    | inr e2 ↦
+        elim (listed_cons h (staging_path r.dkms) (staging_path r.src ∷ staging_path r.modules ∷ staging_path r.boot ∷ plugins_path r ∷ []) e2) [
+          | inl is ↦ (r.dkms, codes ".kb-staged", is_root r root_name.Dkms, is)
+          | inr e3 ↦ elim (listed_cons h (staging_path r.src) (staging_path r.modules ∷ staging_path r.boot ∷ plugins_path r ∷ []) e3) [
+            | inl is ↦ (r.src, codes ".kb-staged", is_root r root_name.Src, is)
+            | inr e4 ↦ elim (listed_cons h (staging_path r.modules) (staging_path r.boot ∷ plugins_path r ∷ []) e4) [
+              | inl is ↦ (r.modules, codes ".kb-staged", is_root r root_name.Modules, is)
+              | inr e5 ↦ elim (listed_cons h (staging_path r.boot) (plugins_path r ∷ []) e5) [
+                | inl is ↦ (r.boot, codes ".kb-staged", is_root r root_name.Boot, is)
+                | inr e6 ↦ elim (listed_cons h (plugins_path r) [] e6) [
+                  | inl is ↦ (r.boot, codes ".kb-plugins", is_root r root_name.Boot, is)
+                  | inr e7 ↦ absurd (true≢false (sym e7))
+                ]
+              ]
             ]
           ]
         ]
-      ]
-    ]
   ]
 ]
 
--- below an open path below a root there is no private head
-pub no_private : (r : Roots) → AreRoots r → (q x : Path) → IsBelowRoot r q → is_open r q ≡ true → is_over q x ≡ true → is_under_one (private_places r) x ≡ true → ⊥
+-- below an open path below a root there is no private place
+pub no_private : (r : Roots) → AreRoots r → (q x : Path) → IsBelowRoot r q → is_open r q ≡ true → is_over q x ≡ true
+    → is_under_one (private_places r) x ≡ true → ⊥
 no_private r roots q x below open_at under e =
     let w = inside_some (private_places r) x e in
     let at_head : is_over w.0 q ≡ true → ⊥ = λ h. not_open r q (or_left _ _ (inside (private_places r) w.0 q w.1 h)) open_at in
@@ -281,20 +278,24 @@ in_above (p ∷ ps) q x h below = elim (listed_cons x p ps h) [
   | inr later ↦ or_right _ _ (in_above ps q x later below)
 ]
 
-pub above_some : (r : Roots) (q : Path) → list_any (is_above q) (written_roots r) ≡ true → (x : Path) × (is_listed x (all_roots r) ≡ true) × (is_above q x ≡ true)
+pub above_some : (r : Roots) (q : Path) → list_any (is_above q) (written_roots r) ≡ true
+    → (x : Path) × (is_listed x (all_roots r) ≡ true) × (is_above q x ≡ true)
 above_some r q h = let w = above_in (written_roots r) q h in (w.0, written_is_root r w.0 w.1, w.2)
 
 -- the root directory is none of them
 not_slash : (r : Roots) → AreRoots r → (x : Path) → is_listed x (all_roots r) ≡ true → x ≡ [] → ⊥
 not_slash r roots x h same =
-    let dkms_below : is_above [] r.dkms ≡ true = slash_above r.dkms (λ e. none_above_root r.base (subst (λ y. is_above r.base y ≡ true) e (base_above r roots))) in
-    disjoint_below (all_roots r) roots.disjoint x r.dkms h (is_root r root_name.Dkms) (subst (λ y. is_above y r.dkms ≡ true) (sym same) dkms_below)
+    let dkms_below : is_above [] r.dkms ≡ true =
+    slash_above r.dkms (λ e. none_above_root r.base (subst (λ y. is_above r.base y ≡ true) e (base_above r roots))) in
+    disjoint_below (all_roots r) roots.disjoint x r.dkms h (is_root r root_name.Dkms)
+    (subst (λ y. is_above y r.dkms ≡ true) (sym same) dkms_below)
   where
     slash_above : (p : Path) → (p ≡ [] → ⊥) → is_above [] p ≡ true
     slash_above [] some = absurd (some refl)
     slash_above (n ∷ p) some = refl
 
-pub parent_written : (r : Roots) → AreRoots r → (q : Path) → is_under_one (written_roots r) q ≡ true → (is_under_one (written_roots r) (parent q) ≡ true) ⊎ (list_any (is_above (parent q)) (written_roots r) ≡ true)
+pub parent_written : (r : Roots) → AreRoots r → (q : Path) → is_under_one (written_roots r) q ≡ true
+    → (is_under_one (written_roots r) (parent q) ≡ true) ⊎ (list_any (is_above (parent q)) (written_roots r) ≡ true)
 parent_written r roots q h =
     let w = inside_some (written_roots r) q h in
     elim (over_cases w.0 q w.2) [

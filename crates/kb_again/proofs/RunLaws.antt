@@ -18,7 +18,7 @@ use Rattle.kb_again.proofs.Ends.{in_turn, is_under_one, IsMember}
 use Rattle.kb_again.proofs.Facts.{all_roots, AreRoots, is_open, is_beside, is_steady, build_at, staged_at, Lists, groups_of, IsValidUnder}
 use Rattle.kb_again.proofs.FrontLaws.{listed_left}
 use Rattle.kb_again.proofs.Kept.{SameOn, SameDirs, IsWhole}
-use Rattle.kb_again.proofs.KeptLaws.{open_again, open_after}
+use Rattle.kb_again.proofs.KeptLaws.{kept_again, kept_after}
 use Rattle.kb_again.proofs.Parts.{done}
 use Rattle.kb_again.proofs.PathLaws.{is_over, is_above, is_listed, same_bytes, over_over, over_above, above_over, above_over_above, not_above_itself}
 use Rattle.kb_again.proofs.PlaceLaws.{entry_is, initrd_child, build_parts}
@@ -36,12 +36,16 @@ base_open r roots =
           let w = inside_some (private_places r) r.base head in
           let x = private_entry r w.0 w.1 in
           let x_above : is_above x.0 w.0 ≡ true = subst (λ h. is_above x.0 h ≡ true) (sym x.3) (child_above x.0 x.1) in
-          disjoint_below (all_roots r) roots.disjoint x.0 r.dkms x.2 (is_root r root_name.Dkms) (over_above x.0 r.base r.dkms (above_over x.0 r.base (above_over_above x.0 w.0 r.base x_above w.2)) above_dkms)
+          disjoint_below (all_roots r) roots.disjoint x.0 r.dkms x.2 (is_root r root_name.Dkms)
+          (over_above x.0 r.base r.dkms (above_over x.0 r.base (above_over_above x.0 w.0 r.base x_above w.2)) above_dkms)
       | inr build ↦
           let w = build_parts r r.base build in
           let one = child r.dkms w.0 in
           let two = child one w.1 in
-          let up : is_over r.dkms (build_at r w.0 w.1) ≡ true = over_over r.dkms two (build_at r w.0 w.1) (over_over r.dkms one two (above_over r.dkms one (child_above r.dkms w.0)) (above_over one two (child_above one w.1))) (above_over two (build_at r w.0 w.1) (child_above two _)) in
+          let up : is_over r.dkms (build_at r w.0 w.1) ≡ true =
+          over_over r.dkms two (build_at r w.0 w.1)
+          (over_over r.dkms one two (above_over r.dkms one (child_above r.dkms w.0)) (above_over one two (child_above one w.1)))
+          (above_over two (build_at r w.0 w.1) (child_above two _)) in
           not_above_itself r.dkms (over_above r.dkms r.base r.dkms (over_over r.dkms (build_at r w.0 w.1) r.base up w.3) above_dkms)
     ])
 
@@ -49,8 +53,12 @@ pub record SeesSteady (r : Roots) (c : Request) : Type 0 where
   pub dir : is_beside r c.dir ≡ true
   pub sees_it : (q : Path) → sees r c q ≡ true → is_steady r q ≡ true
 
-run_same : (f : Script) (r : Roots) (c : Request) (t u : Tree) → ((q : Path) → is_steady r q ≡ true → (is_steady r (parent q) ≡ true) ⊎ (is_beside r (parent q) ≡ true)) → (c.area ≡ Nothing) ⊎ SeesSteady r c → SameOn (is_steady r) t u → SameDirs (is_beside r) t u → SameOn (is_steady r) (run_request f r c t) (run_request f r c u)
-run_same f r c t u above (inl none) same dirs_in q is = ap (λ v. node_at v q) (run_nothing f r c t none) ∙ same q is ∙ sym (ap (λ v. node_at v q) (run_nothing f r c u none))
+run_same : (f : Script) (r : Roots) (c : Request) (t u : Tree)
+    → ((q : Path) → is_steady r q ≡ true → (is_steady r (parent q) ≡ true) ⊎ (is_beside r (parent q) ≡ true))
+    → (c.area ≡ Nothing) ⊎ SeesSteady r c → SameOn (is_steady r) t u → SameDirs (is_beside r) t u
+    → SameOn (is_steady r) (run_request f r c t) (run_request f r c u)
+run_same f r c t u above (inl none) same dirs_in q is =
+    ap (λ v. node_at v q) (run_nothing f r c t none) ∙ same q is ∙ sym (ap (λ v. node_at v q) (run_nothing f r c u none))
 run_same f r c t u above (inr ok) same dirs_in q is =
     let dirs : is_dir (node_at t c.dir) ≡ is_dir (node_at u c.dir) = dirs_in c.dir ok.dir in
     elim (cases_Bool (is_dir (node_at t c.dir))) [
@@ -68,9 +76,14 @@ run_same f r c t u above (inr ok) same dirs_in q is =
 abbrev AreOpenRuns : Roots → List Request → Type 0
 AreOpenRuns r cs = (c : Request) → IsMember c cs → (c.area ≡ Nothing) ⊎ SeesSteady r c
 
-runs_same : (f : Script) (r : Roots) (cs : List Request) (t u : Tree) → ((q : Path) → is_steady r q ≡ true → (is_steady r (parent q) ≡ true) ⊎ (is_beside r (parent q) ≡ true)) → AreOpenRuns r cs → SameOn (is_steady r) t u → SameDirs (is_beside r) t u → SameOn (is_steady r) (in_turn (run_request f r) cs t) (in_turn (run_request f r) cs u)
+runs_same : (f : Script) (r : Roots) (cs : List Request) (t u : Tree)
+    → ((q : Path) → is_steady r q ≡ true → (is_steady r (parent q) ≡ true) ⊎ (is_beside r (parent q) ≡ true)) → AreOpenRuns r cs
+    → SameOn (is_steady r) t u → SameDirs (is_beside r) t u
+    → SameOn (is_steady r) (in_turn (run_request f r) cs t) (in_turn (run_request f r) cs u)
 runs_same f r [] t u above dirs same dirs_in = same
-runs_same f r (c ∷ cs) t u above dirs same dirs_in = runs_same f r cs _ _ above (λ d h. dirs d (inr h)) (run_same f r c t u above (dirs c (inl refl)) same dirs_in) (λ q is. run_dirs f r c t q ∙ dirs_in q is ∙ sym (run_dirs f r c u q))
+runs_same f r (c ∷ cs) t u above dirs same dirs_in =
+    runs_same f r cs _ _ above (λ d h. dirs d (inr h)) (run_same f r c t u above (dirs c (inl refl)) same dirs_in)
+    (λ q is. run_dirs f r c t q ∙ dirs_in q is ∙ sym (run_dirs f r c u q))
 
 -- ---- entries with one of some names
 
@@ -103,9 +116,11 @@ module _ (r : Roots) (s : Lists) (roots : AreRoots r) (valid : IsValidUnder r s)
   base_beside = or_right _ _ (or_left _ _ (base_above r roots))
 
   kernel_steady : (k : List ℕ) (q : Path) → is_over (child r.modules k) q ≡ true → is_open r q ≡ true → is_steady r q ≡ true
-  kernel_steady k q under open_at = and_from _ _ (or_right _ _ (or_right _ _ (or_left _ _ (over_over r.modules (child r.modules k) q (above_over r.modules (child r.modules k) (child_above r.modules k)) under)))) (and_from _ _ open_at (ap not (false_from_ne_true _ (λ is.
+  kernel_steady k q under open_at =
+      and_from _ _ (or_right _ _ (or_right _ _ (or_left _ _ (over_over r.modules (child r.modules k) q (above_over r.modules (child r.modules k) (child_above r.modules k)) under)))) (and_from _ _ open_at (ap not (false_from_ne_true _ (λ is.
       let w = initrd_child r q is in
-      let below : is_above r.modules (child r.boot w.0) ≡ true = subst (λ x. is_above r.modules x ≡ true) w.1 (above_over_above r.modules (child r.modules k) q (child_above r.modules k) under) in
+      let below : is_above r.modules (child r.boot w.0) ≡ true =
+      subst (λ x. is_above r.modules x ≡ true) w.1 (above_over_above r.modules (child r.modules k) q (child_above r.modules k) under) in
       modules_boot r roots (above_child r.modules r.boot w.0 below)))))
 
   -- what a child sees isn't private, and a child that may change something sees the directory of a kernel
@@ -128,21 +143,31 @@ module _ (r : Roots) (s : Lists) (roots : AreRoots r) (valid : IsValidUnder r s)
       dir = ap (is_beside r) index.1.dir ∙ base_beside;
       sees_it = λ q is.
           let parts = seen_parts c h q is in
-          kernel_steady index.0 q (elim (or_cases _ _ (ap (λ l. is_under_one l q) (sym index.1.seen) ∙ parts.0)) [ inl under ↦ under | inr none ↦ absurd (true≢false (sym none)) ]) parts.1;
+          kernel_steady index.0 q
+          (elim (or_cases _ _ (ap (λ l. is_under_one l q) (sym index.1.seen) ∙ parts.0)) [ inl under ↦ under | inr none ↦ absurd (true≢false (sym none)) ]) parts.1;
     })
   ]
 
-  all_same : (f : Script) (t u : Tree) → SameOn (is_steady r) (done (groups_of r s) t) (done (groups_of r s) u) × SameDirs (is_beside r) (done (groups_of r s) t) (done (groups_of r s) u) → SameOn (is_steady r) (after_all f r s t) (after_all f r s u) × SameDirs (is_beside r) (after_all f r s t) (after_all f r s u)
-  all_same f t u same = (runs_same f r s.runs _ _ (groups_hidden r s roots valid).above runs_open same.0 same.1, λ q is. runs_dirs f r s.runs (done (groups_of r s) t) q ∙ same.1 q is ∙ sym (runs_dirs f r s.runs (done (groups_of r s) u) q))
+  all_same : (f : Script) (t u : Tree)
+      → SameOn (is_steady r) (done (groups_of r s) t) (done (groups_of r s) u) × SameDirs (is_beside r) (done (groups_of r s) t)
+      (done (groups_of r s) u)
+      → SameOn (is_steady r) (after_all f r s t) (after_all f r s u) × SameDirs (is_beside r) (after_all f r s t) (after_all f r s u)
+  all_same f t u same =
+      (runs_same f r s.runs _ _ (groups_hidden r s roots valid).above runs_open same.0 same.1, λ q is. runs_dirs f r s.runs (done (groups_of r s) t) q ∙ same.1 q is ∙ sym (runs_dirs f r s.runs (done (groups_of r s) u) q))
 
-  pub left_same : (f : Script) (t u : Tree) → IsWhole t → IsWhole u → IsBehind f r s t u → SameOn (is_steady r) (after_all f r s t) (after_all f r s u) × SameDirs (is_beside r) (after_all f r s t) (after_all f r s u)
+  pub left_same : (f : Script) (t u : Tree) → IsWhole t → IsWhole u → IsBehind f r s t u
+      → SameOn (is_steady r) (after_all f r s t) (after_all f r s u) × SameDirs (is_beside r) (after_all f r s t) (after_all f r s u)
   left_same f t u whole whole_u (among_groups v part whole_v same dirs staged) =
-      all_same f t u (open_again (is_steady r) (is_beside r) (groups_of r s) t v u (groups_valid r s roots valid) (groups_hidden r s roots valid) part whole_v whole_u same dirs (λ m h is.
+      all_same f t u
+      (kept_again (is_steady r) (is_beside r) (groups_of r s) t v u (groups_valid r s roots valid) (groups_hidden r s roots valid) part whole_v whole_u same dirs (λ m h is.
       let w = move_from r s roots valid s.puts m h in
       inl (subst (λ k. node_at u k.0 ≡ node_at v k.0) (sym w.2) (staged w.0 w.1))))
   left_same f t u whole whole_u (among_runs front back e soft dirs staged) =
-      let ran : IsSoftly s.drops (done (groups_of r s) t) (after_runs f r s front t) = runs_softly s.drops f r front (λ c h. area_dropped c (subst (IsMember c) e (member_left front back c h))) (done (groups_of r s) t) in
-      all_same f t u (open_after (is_steady r) (is_beside r) (groups_of r s) t u (groups_valid r s roots valid) (groups_hidden r s roots valid) whole whole_u
+      let ran : IsSoftly s.drops (done (groups_of r s) t) (after_runs f r s front t) =
+      runs_softly s.drops f r front (λ c h. area_dropped c (subst (IsMember c) e (member_left front back c h)))
+      (done (groups_of r s) t) in
+      all_same f t u
+      (kept_after (is_steady r) (is_beside r) (groups_of r s) t u (groups_valid r s roots valid) (groups_hidden r s roots valid) whole whole_u
       (λ q is. elim (soft q is) [
         | inl same ↦ elim (ran q) [ inl was ↦ inl (same ∙ was) | inr changed ↦ inr (changed.0, changed.1, ap is_dir same ∙ changed.2) ]
         | inr now ↦ elim (ran q) [ inl was ↦ inr (now.0, ap is_dir (sym was) ∙ now.1, now.2) | inr changed ↦ inr (now.0, changed.1, now.2) ]
@@ -150,7 +175,9 @@ module _ (r : Roots) (s : Lists) (roots : AreRoots r) (valid : IsValidUnder r s)
       (λ q is. sym (runs_dirs f r front (done (groups_of r s) t) q) ∙ dirs q is)
       (λ m h.
       let w = move_from r s roots valid s.puts m h in
-      let at_place : (node_at u (staged_at r w.0) ≡ node_at (done (groups_of r s) t) (staged_at r w.0)) ⊎ (node_at u (staged_at r w.0) ≡ None) = elim (staged w.0 w.1) [
+      let at_place : (node_at u (staged_at r w.0) ≡ node_at (done (groups_of r s) t) (staged_at r w.0)) ⊎
+      (node_at u (staged_at r w.0) ≡ None) =
+      elim (staged w.0 w.1) [
         | inr none ↦ inr none
         | inl same ↦ elim (ran (staged_at r w.0)) [
           | inl was ↦ inl (same ∙ was)

@@ -43,37 +43,45 @@ pub record IsUnsettled (P : Area → Type 0) (runs : List Request) (a : Area) : 
   pub fits : P a
   pub apart : (c : Request) → IsMember c runs → is_settled_by c.area a ≡ false
 
-unsettled : (P : Area → Type 0) (test : Area → Bool) (soft : List Area) → AllByRecursion P soft → AllByRecursion (λ a. P a × (test a ≡ true)) (filter test soft)
+unsettled : (P : Area → Type 0) (test : Area → Bool) (soft : List Area) → AllByRecursion P soft
+    → AllByRecursion (λ a. P a × (test a ≡ true)) (filter test soft)
 unsettled P test [] all = tt
 unsettled P test (a ∷ soft) all = by (test a) refl (unsettled P test soft all.1)
   where
-    by : (b : Bool) → test a ≡ b → AllByRecursion (λ a. P a × (test a ≡ true)) (filter test soft) → AllByRecursion (λ a. P a × (test a ≡ true)) (cond b (a ∷ filter test soft) (filter test soft))
+    by : (b : Bool) → test a ≡ b → AllByRecursion (λ a. P a × (test a ≡ true)) (filter test soft)
+        → AllByRecursion (λ a. P a × (test a ≡ true)) (cond b (a ∷ filter test soft) (filter test soft))
     by true e rest = ((all.0, e), rest)
     by false e rest = rest
 
-each_settled : (P : Area → Type 0) (runs front : List Request) (soft : List Area) → AllByRecursion (IsUnsettled P front) soft → AllByRecursion (IsUnsettled P (front ++ runs)) (settled (run_areas runs) soft)
+each_settled : (P : Area → Type 0) (runs front : List Request) (soft : List Area) → AllByRecursion (IsUnsettled P front) soft
+    → AllByRecursion (IsUnsettled P (front ++ runs)) (settled (run_areas runs) soft)
 each_settled P [] front soft all = subst (λ l. AllByRecursion (IsUnsettled P l) soft) (sym (append-nil front)) all
 each_settled P (c ∷ runs) front soft all =
-    subst (λ l. AllByRecursion (IsUnsettled P l) (settled (run_areas runs) (filter (λ a. not (is_settled_by c.area a)) soft))) (append_assoc front (c ∷ []) runs)
+    subst (λ l. AllByRecursion (IsUnsettled P l) (settled (run_areas runs) (filter (λ a. not (is_settled_by c.area a)) soft)))
+    (append_assoc front (c ∷ []) runs)
     (each_settled P runs (front ++ c ∷ []) (filter (λ a. not (is_settled_by c.area a)) soft)
     (wider (filter (λ a. not (is_settled_by c.area a)) soft) (unsettled (IsUnsettled P front) (λ a. not (is_settled_by c.area a)) soft all)))
   where
-    one_more : (a : Area) → (d : Request) → IsUnsettled P front a → not (is_settled_by c.area a) ≡ true → IsMember d (front ++ c ∷ []) → is_settled_by d.area a ≡ false
+    one_more : (a : Area) → (d : Request) → IsUnsettled P front a → not (is_settled_by c.area a) ≡ true → IsMember d (front ++ c ∷ [])
+        → is_settled_by d.area a ≡ false
     one_more a d was isnt h = by front h was.apart
       where
-        by : (xs : List Request) → IsMember d (xs ++ c ∷ []) → ((e : Request) → IsMember e xs → is_settled_by e.area a ≡ false) → is_settled_by d.area a ≡ false
+        by : (xs : List Request) → IsMember d (xs ++ c ∷ []) → ((e : Request) → IsMember e xs → is_settled_by e.area a ≡ false)
+            → is_settled_by d.area a ≡ false
         by [] (inl same) each = ap (λ (e : Request). is_settled_by e.area a) same ∙ not_so _ isnt
         by [] (inr later) each = absurd later
         by (x ∷ xs) (inl same) each = ap (λ (e : Request). is_settled_by e.area a) same ∙ each x (inl refl)
         by (x ∷ xs) (inr later) each = by xs later (λ e k. each e (inr k))
 
-    wider : (l : List Area) → AllByRecursion (λ a. IsUnsettled P front a × (not (is_settled_by c.area a) ≡ true)) l → AllByRecursion (IsUnsettled P (front ++ c ∷ [])) l
+    wider : (l : List Area) → AllByRecursion (λ a. IsUnsettled P front a × (not (is_settled_by c.area a) ≡ true)) l
+        → AllByRecursion (IsUnsettled P (front ++ c ∷ [])) l
     wider [] all = tt
     wider (a ∷ l) all = (record { fits = all.0.0.fits; apart = λ d h. one_more a d all.0.0 all.0.1 h }, wider l all.1)
 
 module _ (r : Roots) (s : Lists) (roots : AreRoots r) (valid : IsValidUnder r s) where
   -- another entry of an index file's directory is open as the file is
-  beside_open : (d : Path) (n m : List ℕ) → IsIndex r s roots valid (child d n) → is_open r (child d n) ≡ true → is_open r (child d m) ≡ true
+  beside_open : (d : Path) (n m : List ℕ) → IsIndex r s roots valid (child d n) → is_open r (child d n) ≡ true
+      → is_open r (child d m) ≡ true
   beside_open d n m x open_at =
       let d_is : d ≡ child r.modules x.kernel = same_front d (child r.modules x.kernel) n x.name x.is in
       let in_modules : is_above r.modules d ≡ true = subst (λ y. is_above r.modules y ≡ true) (sym d_is) (child_above r.modules x.kernel) in
@@ -82,22 +90,29 @@ module _ (r : Roots) (s : Lists) (roots : AreRoots r) (valid : IsValidUnder r s)
             let w = inside_some (private_places r) (child d m) head in
             let f = private_entry r w.0 w.1 in
             elim (over_cases w.0 (child d m) w.2) [
-              | inl same ↦ disjoint_below (all_roots r) roots.disjoint r.modules f.0 (is_root r root_name.Modules) f.2 (subst (λ y. is_above r.modules y ≡ true) (same_front d f.0 m f.1 (sym same ∙ f.3)) in_modules)
-              | inr below ↦ not_open r (child d n) (or_left _ _ (inside (private_places r) w.0 (child d n) w.1 (over_over w.0 d (child d n) (above_child w.0 d m below) (above_over d (child d n) (child_above d n))))) open_at
+              | inl same ↦
+                  disjoint_below (all_roots r) roots.disjoint r.modules f.0 (is_root r root_name.Modules) f.2
+                  (subst (λ y. is_above r.modules y ≡ true) (same_front d f.0 m f.1 (sym same ∙ f.3)) in_modules)
+              | inr below ↦
+                  not_open r (child d n)
+                  (or_left _ _ (inside (private_places r) w.0 (child d n) w.1 (over_over w.0 d (child d n) (above_child w.0 d m below) (above_over d (child d n) (child_above d n))))) open_at
             ]
         | inr build ↦
             let w = build_parts r (child d m) build in
-            not_in_both r roots r.dkms r.modules (is_root r root_name.Dkms) (is_root r root_name.Modules) (dkms_modules r roots) (child d m) (build_in_dkms r (child d m) w.0 w.1 w.3)
+            not_in_both r roots r.dkms r.modules (is_root r root_name.Dkms) (is_root r root_name.Modules) (dkms_modules r roots)
+            (child d m) (build_in_dkms r (child d m) w.0 w.1 w.3)
             (over_over r.modules d (child d m) (above_over r.modules d in_modules) (above_over d (child d m) (child_above d m)))
       ])
 
-  list_parts : (a : Area) (q : Path) → is_list_of_names a ≡ true → reaches a q ≡ true → (d : Path) × (ns : List (List ℕ)) × (n : List ℕ) × (a ≡ Names d ns) × (q ≡ child d n)
+  list_parts : (a : Area) (q : Path) → is_list_of_names a ≡ true → reaches a q ≡ true
+      → (d : Path) × (ns : List (List ℕ)) × (n : List ℕ) × (a ≡ Names d ns) × (q ≡ child d n)
   list_parts Nothing q list held = absurd (true≢false (sym list))
   list_parts (Under p) q list held = absurd (true≢false (sym list))
   list_parts (Names d ns) q list held = let w = named d ns q held in (d, ns, w.0, refl, w.2)
 
-  -- a list of names that holds an index file and only what counts as the areas of runs do is a part of one of these
-  settles_list : (d : Path) (ns : List (List ℕ)) (n : List ℕ) → IsFit r s.runs (Names d ns) → (c : Request) → IsMember c s.runs → reaches c.area (child d n) ≡ true
+  -- a sparing list of names that reaches an index file of a run is a part of that run's area
+  settles_list : (d : Path) (ns : List (List ℕ)) (n : List ℕ) → IsFit r s.runs (Names d ns) → (c : Request) → IsMember c s.runs
+      → reaches c.area (child d n) ≡ true
       → is_under_one (written_roots r) (child d n) ≡ true → is_open r (child d n) ≡ true → is_settled_by c.area (Names d ns) ≡ true
   settles_list d ns n fit c h held written open_at = elim (valid.runs c h) [
     | inl none ↦ absurd (true≢false (sym held ∙ ap (λ a. reaches a (child d n)) none))
@@ -109,14 +124,23 @@ module _ (r : Roots) (s : Lists) (roots : AreRoots r) (valid : IsValidUnder r s)
         ∙ and_from _ _ (ap (λ x. same_path x d) (sym d_is) ∙ same_path-refl d) (all_named (λ m. list_any (bytes_eq m) index_names) ns (λ m member.
         let m_held : reaches (Names d ns) (child d m) ≡ true = held_name d m ns member in
         let m_open = beside_open d n m x open_at in
-        let in_modules : is_over r.modules (child d m) ≡ true = over_over r.modules d (child d m) (subst (λ y. is_over r.modules y ≡ true) (sym d_is) (above_over r.modules (child r.modules index.0) (child_above r.modules index.0))) (above_over d (child d m) (child_above d m)) in
-        let m_written : is_under_one (written_roots r) (child d m) ≡ true = inside (written_roots r) r.modules (child d m) (listed_more r.modules r.dkms (r.src ∷ r.modules ∷ r.boot ∷ []) (listed_more r.modules r.src (r.modules ∷ r.boot ∷ []) (listed_first r.modules r.modules (r.boot ∷ []) refl))) in_modules in
-        let no_initrd : is_initrd r (child d m) ≡ false = false_from_ne_true _ (λ is. not_in_both r roots r.modules r.boot (is_root r root_name.Modules) (is_root r root_name.Boot) (modules_boot r roots) (child d m) in_modules (initrd_in_boot r (child d m) is)) in
-        let run = fit_index r s roots valid (Names d ns) fit (child d m) m_held (counted r s roots valid (Names d ns) (child d m) m_written m_open (inr no_initrd)) in
+        let in_modules : is_over r.modules (child d m) ≡ true =
+        over_over r.modules d (child d m)
+        (subst (λ y. is_over r.modules y ≡ true) (sym d_is) (above_over r.modules (child r.modules index.0) (child_above r.modules index.0))) (above_over d (child d m) (child_above d m)) in
+        let m_written : is_under_one (written_roots r) (child d m) ≡ true =
+        inside (written_roots r) r.modules (child d m)
+        (listed_more r.modules r.dkms (r.src ∷ r.modules ∷ r.boot ∷ []) (listed_more r.modules r.src (r.modules ∷ r.boot ∷ []) (listed_first r.modules r.modules (r.boot ∷ []) refl))) in_modules in
+        let no_initrd : is_initrd r (child d m) ≡ false =
+        false_from_ne_true _
+        (λ is. not_in_both r roots r.modules r.boot (is_root r root_name.Modules) (is_root r root_name.Boot) (modules_boot r roots) (child d m) in_modules (initrd_in_boot r (child d m) is)) in
+        let run =
+        fit_index r s roots valid (Names d ns) fit (child d m) m_held
+        (counted r s roots valid (Names d ns) (child d m) m_written m_open (inr no_initrd)) in
         elim (valid.runs run.0 run.1) [
           | inl none ↦ absurd (true≢false (sym run.2 ∙ ap (λ a. reaches a (child d m)) none))
           | inr other ↦
-              let v = named (child r.modules other.0) index_names (child d m) (ap (λ a. reaches a (child d m)) (sym other.1.area) ∙ run.2) in
+              let v =
+              named (child r.modules other.0) index_names (child d m) (ap (λ a. reaches a (child d m)) (sym other.1.area) ∙ run.2) in
               let same_dir : d ≡ child r.modules other.0 = same_front d (child r.modules other.0) m v.0 v.2 in
               let same_name : m ≡ v.0 = same_last d m v.0 (v.2 ∙ ap (λ p. child p v.0) (sym same_dir)) in
               in_names m index_names (subst (λ k. IsMember k index_names) (sym same_name) v.1)
@@ -135,7 +159,9 @@ module _ (r : Roots) (s : Lists) (roots : AreRoots r) (valid : IsValidUnder r s)
       by_itself : (c : Request) → IsMember c s.runs → is_settled_by c.area c.area ≡ true
       by_itself c h = elim (valid.runs c h) [
         | inl none ↦ subst (λ a. is_settled_by a a ≡ true) (sym none) refl
-        | inr index ↦ subst (λ a. is_settled_by a a ≡ true) (sym index.1.area) (and_from _ _ (same_path-refl (child r.modules index.0)) (all_named (λ m. list_any (bytes_eq m) index_names) index_names (λ m h. in_names m index_names h)))
+        | inr index ↦
+            subst (λ a. is_settled_by a a ≡ true) (sym index.1.area)
+            (and_from _ _ (same_path-refl (child r.modules index.0)) (all_named (λ m. list_any (bytes_eq m) index_names) index_names (λ m h. in_names m index_names h)))
       ]
 
       own_settled : (c : Request) → IsMember c s.runs → is_settled_by c.area a ≡ true → ⊥
@@ -151,11 +177,14 @@ module _ (r : Roots) (s : Lists) (roots : AreRoots r) (valid : IsValidUnder r s)
                 let x = run_index r s roots valid run.0 run.1 q run.2 in
                 let entry = child q (codes "x") in
                 let below = above_over q entry (child_above q (codes "x")) in
-                let deeper_run = fit_index r s roots valid a u.fits entry (in_under a q entry other held below) (counted r s roots valid a entry (written_more r s roots valid q entry parts.0 below) (entry_open r s roots valid q (codes "x") x inner.0) (inl other)) in
+                let deeper_run =
+                fit_index r s roots valid a u.fits entry (in_under a q entry other held below)
+                (counted r s roots valid a entry (written_more r s roots valid q entry parts.0 below) (entry_open r s roots valid q (codes "x") x inner.0) (inl other)) in
                 no_deeper r s roots valid q (codes "x") x (run_index r s roots valid deeper_run.0 deeper_run.1 entry deeper_run.2)
             | inl list ↦
                 let w = list_parts a q list held in
-                own_settled run.0 run.1 (ap (is_settled_by run.0.area) w.3 ∙ settles_list w.0 w.1 w.2 (subst (IsFit r s.runs) w.3 u.fits) run.0 run.1 (ap (reaches run.0.area) (sym w.4) ∙ run.2) (ap (is_under_one (written_roots r)) (sym w.4) ∙ parts.0) (ap (is_open r) (sym w.4) ∙ inner.0))
+                own_settled run.0 run.1
+                (ap (is_settled_by run.0.area) w.3 ∙ settles_list w.0 w.1 w.2 (subst (IsFit r s.runs) w.3 u.fits) run.0 run.1 (ap (reaches run.0.area) (sym w.4) ∙ run.2) (ap (is_under_one (written_roots r)) (sym w.4) ∙ parts.0) (ap (is_open r) (sym w.4) ∙ inner.0))
           ]
 
 pub all_of : (P Q : Area → Type 0) → ((a : Area) → P a → Q a) → (soft : List Area) → AllByRecursion P soft → AllByRecursion Q soft
@@ -175,17 +204,22 @@ kept_out_untouched r q h =
     let w = inside_some (kept_out_paths r) q h in
     inside (untouched r) w.0 q (elim (listed_cons w.0 (intent_path r) (staging_paths r) w.1) [
       | inl is ↦ listed_first w.0 (intent_path r) (new_intent_path r ∷ staging_paths r) is
-      | inr staged ↦ listed_more w.0 (intent_path r) (new_intent_path r ∷ staging_paths r) (listed_more w.0 (new_intent_path r) (staging_paths r) staged)
+      | inr staged ↦
+          listed_more w.0 (intent_path r) (new_intent_path r ∷ staging_paths r) (listed_more w.0 (new_intent_path r) (staging_paths r) staged)
     ]) w.2
 
-any_run : (q : Path) (cs : List Request) (c : Request) → IsMember c cs → reaches c.area q ≡ true → list_any (λ other. reaches other q) (run_areas cs) ≡ true
+any_run : (q : Path) (cs : List Request) (c : Request) → IsMember c cs → reaches c.area q ≡ true
+    → list_any (λ other. reaches other q) (run_areas cs) ≡ true
 any_run q [] c h is = absurd h
 any_run q (d ∷ cs) c (inl same) is = or_left _ _ (ap (λ (e : Request). reaches e.area q) (sym same) ∙ is)
 any_run q (d ∷ cs) c (inr later) is = or_right _ _ (any_run q cs c later is)
 
-pub own_spare : (r : Roots) (s : Lists) → AreRoots r → IsValidUnder r s → (c : Request) → IsMember c s.runs → IsSparing r (run_areas s.runs) c.area
+pub own_spare : (r : Roots) (s : Lists) → AreRoots r → IsValidUnder r s → (c : Request) → IsMember c s.runs
+    → IsSparing r (run_areas s.runs) c.area
 own_spare r s roots valid c h = record {
   kept_out = λ q held. false_from_ne_true _ (λ out.
-      valid.not_inside q (listed_left q s.drops (s.wipes ++ (s.first ++ (s.dirs ++ (targets s ++ s.second)))) (area_dropped r s roots valid c h q held)) (kept_out_untouched r q out));
+      valid.not_inside q
+      (listed_left q s.drops (s.wipes ++ (s.first ++ (s.dirs ++ (targets s ++ s.second)))) (area_dropped r s roots valid c h q held))
+      (kept_out_untouched r q out));
   public = λ q held counted. any_run q s.runs c h held;
 }

@@ -10,7 +10,7 @@ use Rattle.kb_world.specs.declared.tree.Node.TheVariants as node
 abbrev pub Standing : Type 0
 Standing = Path → Option Node
 
--- each place has what it has in one of these
+-- at each path stands what stands there in one of these
 abbrev pub Between : Standing → Standing → Standing → Type 0
 Between old new mid = (q : Path) → (mid q ≡ old q) ⊎ (mid q ≡ new q)
 

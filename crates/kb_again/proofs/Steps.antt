@@ -41,7 +41,8 @@ abbrev pub writes : Script → Request → Tree → List Written
 writes f c view = all_written view (answer f c view).effects
 
 abbrev pub effect_in : Area → Written → Tree → Tree
-effect_in a e t = cond ((reaches a e.0 && not (is_dir e.1)) && (not (is_dir (node_at t e.0)) && is_dir (node_at t (parent e.0)))) (edited e.0 e.1 t) t
+effect_in a e t =
+    cond ((reaches a e.0 && not (is_dir e.1)) && (not (is_dir (node_at t e.0)) && is_dir (node_at t (parent e.0)))) (edited e.0 e.1 t) t
 
 abbrev pub run_request : Script → Roots → Request → Tree → Tree
 run_request f r c t = cond (is_dir (node_at t c.dir)) (in_turn (effect_in c.area) (writes f c (view_of r c t)) t) t
@@ -82,11 +83,13 @@ after_all f r s t = after_runs f r s s.runs t
 abbrev pub run_replies : Script → Roots → List Request → Tree → List Reply
 run_replies f r [] t = []
 run_replies f r (c ∷ cs) t =
-    cond (is_dir (node_at t c.dir)) ((answer f c (view_of r c t)).reply ∷ run_replies f r cs (run_request f r c t)) (run_replies f r cs (run_request f r c t))
+    cond (is_dir (node_at t c.dir)) ((answer f c (view_of r c t)).reply ∷ run_replies f r cs (run_request f r c t))
+    (run_replies f r cs (run_request f r c t))
 
 abbrev pub runs_made : Script → Roots → List Request → Tree → List Request
 runs_made f r [] t = []
-runs_made f r (c ∷ cs) t = cond (is_dir (node_at t c.dir)) (c ∷ runs_made f r cs (run_request f r c t)) (runs_made f r cs (run_request f r c t))
+runs_made f r (c ∷ cs) t =
+    cond (is_dir (node_at t c.dir)) (c ∷ runs_made f r cs (run_request f r c t)) (runs_made f r cs (run_request f r c t))
 
 -- ---- cut off
 

@@ -49,7 +49,8 @@ dir_formed t p formed above q stands = elim (same_or_not q p) [
       | inr there ↦ ap is_dir (with_node-apart t p node.Dir x there) ∙ dir
     ]
 
-file_formed : (t : Tree) (p : Path) (n : Node) → IsFormed t → is_dir (node_at t (parent p)) ≡ true → node_at t p ≡ None → IsFormed (with_node p n t)
+file_formed : (t : Tree) (p : Path) (n : Node) → IsFormed t → is_dir (node_at t (parent p)) ≡ true → node_at t p ≡ None
+    → IsFormed (with_node p n t)
 file_formed t p n formed above none q stands = elim (same_or_not q p) [
   | inl same ↦ ap (λ x. is_dir (node_at (with_node p n t) (parent x))) same ∙ still (parent p) above
   | inr other ↦ still (parent q) (formed q (ap is_some (sym (with_node-apart t p n q other)) ∙ stands))
@@ -88,7 +89,9 @@ abbrev index_drops : List Change
 index_drops = map (λ name. Drop (child kernel_dir name)) index_names
 
 abbrev the_changes : List Change
-the_changes = index_drops ++ Wipe (child version_dir (codes "build")) ∷ Dir new_dir ∷ Put Dkms 0 (child new_dir (codes "file")) ∷ DropDir version_dir ∷ DropDir module_dir ∷ Run depmod ∷ []
+the_changes =
+    index_drops ++ Wipe (child version_dir (codes "build")) ∷ Dir new_dir ∷ Put Dkms 0
+    (child new_dir (codes "file")) ∷ DropDir version_dir ∷ DropDir module_dir ∷ Run depmod ∷ []
 
 valid : is_valid the_roots the_changes ≡ true
 valid = refl
@@ -139,10 +142,13 @@ image_left = record {
     | inl same ↦ inr (subst (λ x. is_soft_at (areas_of the_changes) x (node_at the_tree x) (node_at the_image x) ≡ true) (sym same)
         ((λ i. is_soft_at (areas_of the_changes) index_file (nothing_there i) (index_there i))))
   ];
-  formed = file_formed the_tree index_file (node.File [] false) tree_formed (ap is_dir (with_node-here with_modules kernel_dir node.Dir)) nothing_there;
+  formed =
+      file_formed the_tree index_file (node.File [] false) tree_formed
+      (ap is_dir (with_node-here with_modules kernel_dir node.Dir)) nothing_there;
 }
 
-pub some_case : (roots : Roots) × (script : Script) × (changes : List Change) × (soft : List Area) × (tree : Tree) × (image : Tree) × IsCase roots script changes soft tree image
+pub some_case : (roots : Roots) × (script : Script) × (changes : List Change) × (soft : List Area) × (tree : Tree) ×
+    (image : Tree) × IsCase roots script changes soft tree image
 some_case = (
   the_roots,
   [],
