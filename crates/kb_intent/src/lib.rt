@@ -1,5 +1,8 @@
 //! The journal's transactions.
 #![tactic(auto)]
 
-pub mod doing;
-pub mod standing;
+mod changing;
+mod doing;
+mod standing;
+
+pub use changing::{do_change, staged_path};

@@ -19,7 +19,7 @@ use Rattle.kb_world.proofs.DoesLaws.{no_cause}
 use Rattle.kb_machine.specs.Stands.{Rests, Stands, IsOneOf, OpensOneOf, StandsOneOf}
 use Rattle.kb_machine.specs.Across.{Survives, LeavesStanding, DoesAcrossCrashes}
 use Rattle.kb_machine.proofs.ThenLaws.{does_then}
-use Rattle.kb_machine.specs.Each.{nothing, each, Leads}
+use Rattle.kb_machine.specs.Each.{no_action, each, Leads}
 
 -- ---- texts alone
 

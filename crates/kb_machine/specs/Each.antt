@@ -11,16 +11,16 @@ use Rattle.kb_world.specs.declared.roots.Roots.{Roots}
 use Rattle.kb_world.specs.declared.stop.Stop.{Stop}
 use Rattle.kb_machine.specs.Across.{DoesAcrossCrashes}
 
-abbrev pub nothing : Action
-nothing = print []
+abbrev pub no_action : Action
+no_action = print []
 
 -- the action where the test holds of store and foreign tree together
 abbrev pub when : (Tree → Bool) → Action → Action
-when test action store foreign = cond (test (united store foreign)) (action store foreign) (nothing store foreign)
+when test action store foreign = cond (test (united store foreign)) (action store foreign) (no_action store foreign)
 
 -- the action of each item, in turn
 abbrev pub each : {T : Type 0} → (T → Action) → List T → Action
-each action [] = nothing
+each action [] = no_action
 each action (item ∷ items) = action item then each action items
 
 -- Whoever does the rest from here does the whole.
