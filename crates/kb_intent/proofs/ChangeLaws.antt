@@ -1,5 +1,5 @@
 -- A change is done: what the operations and children of a world make of it.
-use Rattle.std.proofs.Common.{◌≡◌, ◌⊎◌, ℕ, Bool, true, false, cond, ◌&&◌, ◌||◌, not, List, [], ◌∷◌, ◌++◌, map, Option, Some, None, is_some, Result, Ok, Err, refl, sym, ap, ◌∙◌, subst, inl, inr, arith, append-nil}
+use Rattle.std.proofs.Common.{◌≡◌, ◌⊎◌, ℕ, Bool, true, false, cond, ◌&&◌, ◌||◌, not, List, [], ◌∷◌, ◌++◌, map, Option, Some, None, is_some, Result, Ok, Err, refl, sym, ap, ◌∙◌, subst, inl, inr, arith, codes, append_assoc, append-nil}
 use Rattle.std.specs.Prelude.{option_map, IsErrOf, IsTrue, OnOk, IfOk}
 use Rattle.std.specs.List.{list_any}
 use Rattle.std.specs.Option.{ForSome}
@@ -40,7 +40,10 @@ use Rattle.kb_walk.proofs.WipeLaws.{cleared_at}
 use Rattle.kb_walk.proofs.WipeCalls.{HasFormedTree, cause_handed, done_not_failed}
 use Rattle.kb_again.specs.Sparing.{areas_of}
 use Rattle.kb_again.specs.Within.{IsWithin}
-use Rattle.kb_intent.specs.Doing.{StepsTo, IsEitherOf, IsEitherNow, LeftOfEither, DoesChange, IsChanged, IsWithinNow, LeftWithin, said_by}
+use Rattle.kb_world.specs.Steps.{tidied}
+use Rattle.std.specs.Fmt.{decimal}
+use Rattle.kb_walk.proofs.WalkLaws.{below_more}
+use Rattle.kb_intent.specs.Doing.{made_dir_at, dropped_leaf_at, put_staged_at, StepsTo, IsEitherOf, IsEitherNow, LeftOfEither, DoesChange, IsChanged, IsWithinNow, LeftWithin, said_by}
 
 -- ---- the cause of a call that hands an answer on
 
@@ -111,3 +114,39 @@ unstepped step state = record {
 
 pub wants_plain : (roots : Roots) (change : Change) (step : Tree → Tree) (state : State) → IsPlain roots change step state.script → DoesChange roots change state state (Err NoMemory)
 wants_plain roots change step state plain = stops_plain roots change step state state plain NoMemory (unstepped step state)
+
+pub plain_dir : (roots : Roots) (script : Script) (path : Path) → IsPlain roots (changes.Dir path) (made_dir_at path) script
+plain_dir roots script path = record { steps = λ tree. refl; ends = λ tree now either. either; requests = λ tree. refl; areas = refl }
+
+pub plain_drop : (roots : Roots) (script : Script) (path : Path) → IsPlain roots (changes.Drop path) (dropped_leaf_at path) script
+plain_drop roots script path = record { steps = λ tree. refl; ends = λ tree now either. either; requests = λ tree. refl; areas = refl }
+
+pub plain_drop_dir : (roots : Roots) (script : Script) (path : Path) → IsPlain roots (changes.DropDir path) (tidied path) script
+plain_drop_dir roots script path = record { steps = λ tree. refl; ends = λ tree now either. either; requests = λ tree. refl; areas = refl }
+
+pub plain_put : (roots : Roots) (script : Script) (root : RootName) (number : ℕ) (staged target : Path) → staged ≡ staged_path roots root number
+    → IsPlain roots (changes.Put root number target) (put_staged_at staged target) script
+plain_put roots script root number staged target is =
+    subst (λ path. IsPlain roots (changes.Put root number target) (put_staged_at path target) script) (sym is)
+    (record { steps = λ tree. refl; ends = λ tree now either. either; requests = λ tree. refl; areas = refl })
+
+-- a staged place and a well placed target are below one root
+pub shares_root : (roots : Roots) (root : RootName) (number : ℕ) (staged target : Path) → staged ≡ staged_path roots root number → is_well_placed roots (changes.Put root number target) ≡ true
+    → share_root roots staged target ≡ true
+shares_root roots root number staged target is placed =
+    ap (λ path. share_root roots path target) is
+    ∙ any_root (λ r. is_below (staged_path roots root number) r && is_below target r) roots root
+    (both_true (staged_below root) (second_so (is_changeable roots target) (is_below target (root_path roots root)) placed))
+  where
+    staged_below : (root : RootName) → is_below (staged_path roots root number) (root_path roots root) ≡ true
+    staged_below root = ap (λ path. is_below path (root_path roots root)) (append_assoc (root_path roots root) (codes ".kb-staged" ∷ []) (decimal number ∷ [])) ∙ below_more (root_path roots root) (codes ".kb-staged") (decimal number ∷ [])
+
+    or_right : (a b : Bool) → b ≡ true → (a || b) ≡ true
+    or_right true b e = refl
+    or_right false b e = e
+
+    any_root : (test : Path → Bool) (roots : Roots) (root : RootName) → test (root_path roots root) ≡ true → list_any test (roots.boot ∷ based_roots roots) ≡ true
+    any_root test roots root_name.Boot e = ap (λ b. b || list_any test (based_roots roots)) e
+    any_root test roots root_name.Dkms e = or_right (test roots.boot) (list_any test (based_roots roots)) (ap (λ b. b || _) e)
+    any_root test roots root_name.Src e = or_right (test roots.boot) (list_any test (based_roots roots)) (or_right (test roots.dkms) _ (ap (λ b. b || _) e))
+    any_root test roots root_name.Modules e = or_right (test roots.boot) (list_any test (based_roots roots)) (or_right (test roots.dkms) _ (or_right (test roots.src) _ (ap (λ b. b || _) e)))

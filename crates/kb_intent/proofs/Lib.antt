@@ -1,2 +1,3 @@
 pub mod ChangeLaws
+pub mod RunLaws
 pub mod StepsToLaws

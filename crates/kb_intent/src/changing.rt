@@ -1,8 +1,7 @@
 // Any change of a transaction is done.
-ghost use Rattle.std.specs.Prelude.{◌≡◌, true, IfOk};
+ghost use Rattle.std.specs.Prelude.{◌≡◌, true};
 ghost use Rattle.std.specs.Option.{ForSome};
 ghost use Rattle.kb_world.specs.Roots.{share_root};
-ghost use Rattle.kb_changes.specs.Change as rule;
 ghost use Rattle.kb_changes.specs.Valid.{is_well_placed};
 ghost use Rattle.kb_changes.specs.declared.change.Change.TheVariants as changes;
 ghost use Rattle.kb_world.specs.Tree.{node_at, is_dir};
@@ -10,10 +9,10 @@ ghost use Rattle.kb_intent.specs.Doing.{StepsTo, DoesChange, put_staged_at};
 
 use crate::doing::{drop_directory, drop_leaf, make_directory, put_staged};
 use crate::standing::is_directory;
-use kb_changes::{Change, RootName};
+use kb_changes::{Change, RootName, staged_path};
 use kb_walk::wipe;
 use kb_world::{Path, Reply, Request, Roots, World, WorldError};
-use std::alloc::{AllocError, Global};
+use std::alloc::Global;
 
 fn do_dir<W: World>(
     alloc: Global,
@@ -73,27 +72,6 @@ fn do_wipe<W: World>(
         Ok(()) => Ok(None),
         Err(error) => Err(error),
     }
-}
-
-/// The path at which a root's staged file or link of this number stands.
-pub fn staged_path(
-    alloc: Global,
-    roots: &Roots,
-    root: RootName,
-    number: u64,
-) -> Result<Path, AllocError>
-    ensures { IfOk result (λ path. path ≡ rule.staged_path roots.now root number) }
-{
-    let directory = match root {
-        RootName::Dkms => &roots.dkms,
-        RootName::Src => &roots.src,
-        RootName::Modules => &roots.modules,
-        RootName::Boot => &roots.boot,
-    };
-    let name = format!(in alloc; "{number}")?;
-    directory
-        .child(alloc, ".kb-staged")?
-        .child(alloc, name.as_str())
 }
 
 // Moves what is staged at the path to the target.
