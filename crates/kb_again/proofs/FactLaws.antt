@@ -20,7 +20,8 @@ use Rattle.kb_changes.specs.Valid.{are_in_order, deepest_first, deepest_last, ar
 use Rattle.kb_changes.specs.declared.change.Change.{Change}
 use Rattle.kb_changes.specs.declared.change.Change.TheVariants.{Dir, Put, Drop, DropDir, Wipe, Run}
 use Rattle.kb_again.proofs.Ends.{is_under_one, IsMember, IsUpward, IsDownward}
-use Rattle.kb_again.proofs.Facts.{StagedPut, puts_in, lists_of, staged_at, targets, changed_paths, staging_paths, untouched, build_at, AreDifferent, IsIndexRun, IsValidUnder}
+use Rattle.kb_again.specs.Within.{staging_paths}
+use Rattle.kb_again.proofs.Facts.{StagedPut, puts_in, lists_of, staged_at, targets, changed_paths, untouched, build_at, AreDifferent, IsIndexRun, IsValidUnder}
 use Rattle.kb_again.proofs.PathLaws.{is_over, is_above, is_listed, same_bytes, listed_cons, listed_first, listed_more}
 use Rattle.kb_again.proofs.PlaceLaws.{entry_is}
 use Rattle.kb_again.proofs.RootLaws.{of_all}
@@ -96,8 +97,10 @@ different r (c ∷ cs) h k =
     let apart = and_parts _ _ h in
     let apart_staged = and_parts _ _ k in (
       (λ d in_it. (
-        (λ same. no _ apart.0 (subst (λ x. is_listed x (map (λ e. e.target) cs) ≡ true) (sym same) (mapped_member (λ e. e.target) cs d in_it))),
-        (λ same. no _ apart_staged.0 (subst (λ x. is_listed x (map (staged_at r) cs) ≡ true) (sym same) (mapped_member (staged_at r) cs d in_it))),
+        (λ same. no _ apart.0
+            (subst (λ x. is_listed x (map (λ e. e.target) cs) ≡ true) (sym same) (mapped_member (λ e. e.target) cs d in_it))),
+        (λ same. no _ apart_staged.0
+            (subst (λ x. is_listed x (map (staged_at r) cs) ≡ true) (sym same) (mapped_member (staged_at r) cs d in_it))),
       )),
       different r cs apart.1 apart_staged.1,
     )
@@ -120,21 +123,56 @@ record ArePlaced (r : Roots) (cs : List Change) : Type 0 where
 placed : (r : Roots) (cs : List Change) → list_all (is_well_placed r) cs ≡ true → ArePlaced r cs
 placed r [] h = record { drops = refl; wipes = refl; drop_dirs = refl; dirs = refl; targets = refl }
 placed r (Drop path ∷ cs) h =
-    let rest = placed r cs (and_parts _ _ h).1 in
-    record { drops = all_more r path (drops_in cs) (and_parts _ _ h).0 rest.drops; wipes = rest.wipes; drop_dirs = rest.drop_dirs; dirs = rest.dirs; targets = rest.targets }
+    let both = and_parts _ _ h in
+    let rest = placed r cs both.1 in
+    record {
+      drops = all_more r path (drops_in cs) both.0 rest.drops;
+      wipes = rest.wipes;
+      drop_dirs = rest.drop_dirs;
+      dirs = rest.dirs;
+      targets = rest.targets;
+    }
 placed r (Wipe path ∷ cs) h =
-    let rest = placed r cs (and_parts _ _ h).1 in
-    record { drops = rest.drops; wipes = all_more r path (wipes_in cs) (and_parts _ _ h).0 rest.wipes; drop_dirs = rest.drop_dirs; dirs = rest.dirs; targets = rest.targets }
+    let both = and_parts _ _ h in
+    let rest = placed r cs both.1 in
+    record {
+      drops = rest.drops;
+      wipes = all_more r path (wipes_in cs) both.0 rest.wipes;
+      drop_dirs = rest.drop_dirs;
+      dirs = rest.dirs;
+      targets = rest.targets;
+    }
 placed r (DropDir path ∷ cs) h =
-    let rest = placed r cs (and_parts _ _ h).1 in
-    record { drops = rest.drops; wipes = rest.wipes; drop_dirs = all_more r path (drop_dirs_in cs) (and_parts _ _ h).0 rest.drop_dirs; dirs = rest.dirs; targets = rest.targets }
+    let both = and_parts _ _ h in
+    let rest = placed r cs both.1 in
+    record {
+      drops = rest.drops;
+      wipes = rest.wipes;
+      drop_dirs = all_more r path (drop_dirs_in cs) both.0 rest.drop_dirs;
+      dirs = rest.dirs;
+      targets = rest.targets;
+    }
 placed r (Dir path ∷ cs) h =
-    let rest = placed r cs (and_parts _ _ h).1 in
-    record { drops = rest.drops; wipes = rest.wipes; drop_dirs = rest.drop_dirs; dirs = all_more r path (dirs_in cs) (and_parts _ _ h).0 rest.dirs; targets = rest.targets }
+    let both = and_parts _ _ h in
+    let rest = placed r cs both.1 in
+    record {
+      drops = rest.drops;
+      wipes = rest.wipes;
+      drop_dirs = rest.drop_dirs;
+      dirs = all_more r path (dirs_in cs) both.0 rest.dirs;
+      targets = rest.targets;
+    }
 placed r (Put name number target ∷ cs) h =
-    let rest = placed r cs (and_parts _ _ h).1 in
-    let here = (and_parts (is_changeable r target) _ (and_parts _ _ h).0).0 in
-    record { drops = rest.drops; wipes = rest.wipes; drop_dirs = rest.drop_dirs; dirs = rest.dirs; targets = all_more r target (targets_in cs) here rest.targets }
+    let both = and_parts _ _ h in
+    let rest = placed r cs both.1 in
+    let here = (and_parts (is_changeable r target) _ both.0).0 in
+    record {
+      drops = rest.drops;
+      wipes = rest.wipes;
+      drop_dirs = rest.drop_dirs;
+      dirs = rest.dirs;
+      targets = all_more r target (targets_in cs) here rest.targets;
+    }
 placed r (Run request ∷ cs) h =
     let rest = placed r cs h in
     record { drops = rest.drops; wipes = rest.wipes; drop_dirs = rest.drop_dirs; dirs = rest.dirs; targets = rest.targets }
@@ -303,7 +341,8 @@ known_valid r cs h =
         second_order = upward (second_drop_dirs cs) second.1;
         dirs_order = downward (dirs_in cs) last.1;
         target_not_wiped =
-            λ c in_it is. no _ (of_all (λ path. not (list_any (is_under path) (wipes_in cs))) (targets_in cs) c2.0 c.target (at c in_it)) is;
+            λ c in_it is. no _ (of_all (λ path. not (list_any (is_under path) (wipes_in cs))) (targets_in cs) c2.0 c.target
+            (at c in_it)) is;
         target_not_dropped =
             λ c in_it is. no _ (of_all (λ path. not (is_among_paths (drops_in cs) path)) (targets_in cs) c2.1 c.target (at c in_it)) is;
         target_not_second =

@@ -15,6 +15,7 @@ use Rattle.kb_changes.specs.Valid.{written_roots, new_intent_path, is_initrd}
 use Rattle.kb_changes.specs.declared.change.Change.{Change}
 use Rattle.kb_changes.specs.declared.change.Change.TheVariants as change
 use Rattle.kb_changes.specs.declared.change.RootName.{RootName}
+use Rattle.kb_again.specs.Within.{staging_paths}
 use Rattle.kb_again.proofs.PathLaws.{is_over, is_above, is_listed}
 use Rattle.kb_again.proofs.Ends.{Move, is_under_one, IsMember, IsUpward, IsDownward}
 use Rattle.kb_again.proofs.Parts.{Groups}
@@ -88,9 +89,6 @@ AreDisjoint (p ∷ ps) = ((q : Path) → is_listed q ps ≡ true → (is_over p 
 pub record AreRoots (r : Roots) : Type 0 where
   pub disjoint : AreDisjoint (all_roots r)
   pub below : (q : Path) → is_listed q (based_roots r) ≡ true → is_above r.base q ≡ true
-
-abbrev pub staging_paths : Roots → List Path
-staging_paths r = staging_path r.dkms ∷ staging_path r.src ∷ staging_path r.modules ∷ staging_path r.boot ∷ []
 
 -- paths at and below which no change is made
 abbrev pub untouched : Roots → List Path

@@ -44,13 +44,15 @@ IsSoftlyOn p ps t u =
 abbrev pub KeptSame : Type 0
 KeptSame =
     (p b : Path → Bool) (g : Groups)
-    (t u : Tree) → IsValid g → IsHidden p b g → IsWhole t → IsWhole u → IsSoftlyOn p g.drops t u → SameDirs b t u → HasStaged p g t u → SameOn p (done g t) (done g u) × SameDirs b (done g t) (done g u)
+    (t u : Tree) → IsValid g → IsHidden p b g → IsWhole t → IsWhole u → IsSoftlyOn p g.drops t u → SameDirs b t u → HasStaged p g t u
+    → SameOn p (done g t) (done g u) × SameDirs b (done g t) (done g u)
 
 -- from a tree in which a part is done, with anything at paths that are neither kept nor staged
 abbrev pub KeptAgain : Type 0
 KeptAgain =
     (p b : Path → Bool) (g : Groups)
-    (t v u : Tree) → IsValid g → IsHidden p b g → IsPart g t v → IsWhole v → IsWhole u → IsSoftlyOn p g.drops v u → SameDirs b v u → HasStaged p g v u → SameOn p (done g t) (done g u) × SameDirs b (done g t) (done g u)
+    (t v u : Tree) → IsValid g → IsHidden p b g → IsPart g t v → IsWhole v → IsWhole u → IsSoftlyOn p g.drops v u → SameDirs b v u
+    → HasStaged p g v u → SameOn p (done g t) (done g u) × SameDirs b (done g t) (done g u)
 
 -- after all changes any staged files may be gone
 abbrev pub KeptAfter : Type 0

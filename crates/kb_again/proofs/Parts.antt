@@ -58,7 +58,9 @@ pub data IsPart (g : Groups) (t u : Tree) : Type 0 where
   in_puts : (some : List Move) → ((m : Move) → IsMember m some → IsMember m g.puts) → u ≡ in_turn move_at some (made_tree g t)
       → IsPart g t u
   in_second : Between (node_at (put_tree g t)) (node_at (done g t)) (node_at u) → IsPart g t u
-  in_runs : ((q : Path) → (node_at u q ≡ node_at (done g t) q) ⊎ ((is_listed q g.drops ≡ true) × (is_dir (node_at (done g t) q) ≡ false) × (is_dir (node_at u q) ≡ false)))
+  in_runs : ((q : Path)
+      → (node_at u q ≡ node_at (done g t) q) ⊎
+      ((is_listed q g.drops ≡ true) × (is_dir (node_at (done g t) q) ≡ false) × (is_dir (node_at u q) ≡ false)))
       → IsPart g t u
 
 -- doing all again from any of them gives what doing all once gives

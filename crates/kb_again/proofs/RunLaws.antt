@@ -117,7 +117,11 @@ module _ (r : Roots) (s : Lists) (roots : AreRoots r) (valid : IsValidUnder r s)
 
   kernel_steady : (k : List ℕ) (q : Path) → is_over (child r.modules k) q ≡ true → is_open r q ≡ true → is_steady r q ≡ true
   kernel_steady k q under open_at =
-      and_from _ _ (or_right _ _ (or_right _ _ (or_left _ _ (over_over r.modules (child r.modules k) q (above_over r.modules (child r.modules k) (child_above r.modules k)) under)))) (and_from _ _ open_at (ap not (false_from_ne_true _ (λ is.
+      and_from _ _ (or_right _ _
+      (or_right _ _ (or_left _ _
+      (over_over r.modules (child r.modules k) q
+      (above_over r.modules (child r.modules k)
+      (child_above r.modules k)) under)))) (and_from _ _ open_at (ap not (false_from_ne_true _ (λ is.
       let w = initrd_child r q is in
       let below : is_above r.modules (child r.boot w.0) ≡ true =
       subst (λ x. is_above r.modules x ≡ true) w.1 (above_over_above r.modules (child r.modules k) q (child_above r.modules k) under) in
@@ -144,7 +148,10 @@ module _ (r : Roots) (s : Lists) (roots : AreRoots r) (valid : IsValidUnder r s)
       sees_it = λ q is.
           let parts = seen_parts c h q is in
           kernel_steady index.0 q
-          (elim (or_cases _ _ (ap (λ l. is_under_one l q) (sym index.1.seen) ∙ parts.0)) [ inl under ↦ under | inr none ↦ absurd (true≢false (sym none)) ]) parts.1;
+          (elim (or_cases _ _ (ap (λ l. is_under_one l q) (sym index.1.seen) ∙ parts.0)) [
+            | inl under ↦ under
+            | inr none ↦ absurd (true≢false (sym none))
+          ]) parts.1;
     })
   ]
 
@@ -152,14 +159,18 @@ module _ (r : Roots) (s : Lists) (roots : AreRoots r) (valid : IsValidUnder r s)
       → SameOn (is_steady r) (done (groups_of r s) t) (done (groups_of r s) u) × SameDirs (is_beside r) (done (groups_of r s) t)
       (done (groups_of r s) u)
       → SameOn (is_steady r) (after_all f r s t) (after_all f r s u) × SameDirs (is_beside r) (after_all f r s t) (after_all f r s u)
-  all_same f t u same =
-      (runs_same f r s.runs _ _ (groups_hidden r s roots valid).above runs_open same.0 same.1, λ q is. runs_dirs f r s.runs (done (groups_of r s) t) q ∙ same.1 q is ∙ sym (runs_dirs f r s.runs (done (groups_of r s) u) q))
+  all_same f t u same = (
+    runs_same f r s.runs _ _ (groups_hidden r s roots valid).above runs_open same.0 same.1,
+    λ q is. runs_dirs f r s.runs
+        (done (groups_of r s) t) q ∙ same.1 q is ∙ sym (runs_dirs f r s.runs (done (groups_of r s) u) q),
+  )
 
   pub left_same : (f : Script) (t u : Tree) → IsWhole t → IsWhole u → IsBehind f r s t u
       → SameOn (is_steady r) (after_all f r s t) (after_all f r s u) × SameDirs (is_beside r) (after_all f r s t) (after_all f r s u)
   left_same f t u whole whole_u (among_groups v part whole_v same dirs staged) =
       all_same f t u
-      (kept_again (is_steady r) (is_beside r) (groups_of r s) t v u (groups_valid r s roots valid) (groups_hidden r s roots valid) part whole_v whole_u same dirs (λ m h is.
+      (kept_again (is_steady r) (is_beside r) (groups_of r s) t v u (groups_valid r s roots valid)
+      (groups_hidden r s roots valid) part whole_v whole_u same dirs (λ m h is.
       let w = move_from r s roots valid s.puts m h in
       inl (subst (λ k. node_at u k.0 ≡ node_at v k.0) (sym w.2) (staged w.0 w.1))))
   left_same f t u whole whole_u (among_runs front back e soft dirs staged) =
@@ -167,7 +178,8 @@ module _ (r : Roots) (s : Lists) (roots : AreRoots r) (valid : IsValidUnder r s)
       runs_softly s.drops f r front (λ c h. area_dropped c (subst (IsMember c) e (member_left front back c h)))
       (done (groups_of r s) t) in
       all_same f t u
-      (kept_after (is_steady r) (is_beside r) (groups_of r s) t u (groups_valid r s roots valid) (groups_hidden r s roots valid) whole whole_u
+      (kept_after (is_steady r) (is_beside r) (groups_of r s) t u (groups_valid r s roots valid)
+      (groups_hidden r s roots valid) whole whole_u
       (λ q is. elim (soft q is) [
         | inl same ↦ elim (ran q) [ inl was ↦ inl (same ∙ was) | inr changed ↦ inr (changed.0, changed.1, ap is_dir same ∙ changed.2) ]
         | inr now ↦ elim (ran q) [ inl was ↦ inr (now.0, ap is_dir (sym was) ∙ now.1, now.2) | inr changed ↦ inr (now.0, changed.1, now.2) ]

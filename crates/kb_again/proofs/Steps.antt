@@ -108,5 +108,6 @@ pub data IsBehind (f : Script) (r : Roots) (s : Lists) (t u : Tree) : Type 0 whe
       → ((c : StagedPut) → IsMember c s.puts → node_at u (staged_at r c) ≡ node_at v (staged_at r c)) → IsBehind f r s t u
   among_runs : (front back : List Request) → front ++ back ≡ s.runs
       → IsSoftlyOn (is_steady r) s.drops (after_runs f r s front t) u → SameDirs (is_beside r) (after_runs f r s front t) u
-      → ((c : StagedPut) → IsMember c s.puts → (node_at u (staged_at r c) ≡ node_at (after_runs f r s front t) (staged_at r c)) ⊎ (node_at u (staged_at r c) ≡ None))
+      → ((c : StagedPut) → IsMember c s.puts
+      → (node_at u (staged_at r c) ≡ node_at (after_runs f r s front t) (staged_at r c)) ⊎ (node_at u (staged_at r c) ≡ None))
       → IsBehind f r s t u

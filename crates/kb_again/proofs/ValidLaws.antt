@@ -30,17 +30,21 @@ module _ (r : Roots) (s : Lists) (roots : AreRoots r) (valid : IsValidUnder r s)
   pub in_first_changed : (q : Path) → is_listed q s.first ≡ true → is_listed q (changed_paths s) ≡ true
   in_first_changed q h =
       listed_right q s.drops (s.wipes ++ (s.first ++ (s.dirs ++ ((targets s) ++ s.second))))
-      (listed_right q s.wipes (s.first ++ (s.dirs ++ ((targets s) ++ s.second))) (listed_left q s.first (s.dirs ++ ((targets s) ++ s.second)) h))
+      (listed_right q s.wipes (s.first ++ (s.dirs ++ ((targets s) ++ s.second)))
+      (listed_left q s.first (s.dirs ++ ((targets s) ++ s.second)) h))
 
   pub in_dirs_changed : (q : Path) → is_listed q s.dirs ≡ true → is_listed q (changed_paths s) ≡ true
   in_dirs_changed q h =
       listed_right q s.drops (s.wipes ++ (s.first ++ (s.dirs ++ ((targets s) ++ s.second))))
-      (listed_right q s.wipes (s.first ++ (s.dirs ++ ((targets s) ++ s.second))) (listed_right q s.first (s.dirs ++ ((targets s) ++ s.second)) (listed_left q s.dirs ((targets s) ++ s.second) h)))
+      (listed_right q s.wipes (s.first ++ (s.dirs ++ ((targets s) ++ s.second)))
+      (listed_right q s.first (s.dirs ++ ((targets s) ++ s.second)) (listed_left q s.dirs ((targets s) ++ s.second) h)))
 
   pub in_second_changed : (q : Path) → is_listed q s.second ≡ true → is_listed q (changed_paths s) ≡ true
   in_second_changed q h =
       listed_right q s.drops (s.wipes ++ (s.first ++ (s.dirs ++ ((targets s) ++ s.second))))
-      (listed_right q s.wipes (s.first ++ (s.dirs ++ ((targets s) ++ s.second))) (listed_right q s.first (s.dirs ++ ((targets s) ++ s.second)) (listed_right q s.dirs ((targets s) ++ s.second) (listed_right q (targets s) s.second h))))
+      (listed_right q s.wipes (s.first ++ (s.dirs ++ ((targets s) ++ s.second)))
+      (listed_right q s.first (s.dirs ++ ((targets s) ++ s.second))
+      (listed_right q s.dirs ((targets s) ++ s.second) (listed_right q (targets s) s.second h))))
 
   has_target : (cs : List StagedPut) (c : StagedPut) → IsMember c cs → is_listed c.target (map (λ d. d.target) cs) ≡ true
   has_target [] c h = absurd h
@@ -50,7 +54,9 @@ module _ (r : Roots) (s : Lists) (roots : AreRoots r) (valid : IsValidUnder r s)
   pub target_changed : (c : StagedPut) → IsMember c s.puts → is_listed c.target (changed_paths s) ≡ true
   target_changed c h =
       listed_right c.target s.drops (s.wipes ++ (s.first ++ (s.dirs ++ ((targets s) ++ s.second))))
-      (listed_right c.target s.wipes (s.first ++ (s.dirs ++ ((targets s) ++ s.second))) (listed_right c.target s.first (s.dirs ++ ((targets s) ++ s.second)) (listed_right c.target s.dirs ((targets s) ++ s.second) (listed_left c.target (targets s) s.second (has_target s.puts c h)))))
+      (listed_right c.target s.wipes (s.first ++ (s.dirs ++ ((targets s) ++ s.second)))
+      (listed_right c.target s.first (s.dirs ++ ((targets s) ++ s.second))
+      (listed_right c.target s.dirs ((targets s) ++ s.second) (listed_left c.target (targets s) s.second (has_target s.puts c h)))))
 
   not_root : (ps : List Path) → ((q : Path) → is_listed q ps ≡ true → is_listed q (changed_paths s) ≡ true) → is_listed [] ps ≡ false
   not_root ps changed = false_from_ne_true _ (λ h. let w = below_root [] (changed [] h) in none_above_root w.0 w.2)
@@ -107,10 +113,12 @@ module _ (r : Roots) (s : Lists) (roots : AreRoots r) (valid : IsValidUnder r s)
   not_above_staged c q changed under = elim (over_cases q (staged_at r c) under) [
     | inl same ↦ no_staged c q changed (sym same)
     | inr further ↦
-        elim (over_cases q (staging_path (root_path r c.root)) (above_child q (staging_path (root_path r c.root)) (decimal c.number) further)) [
+        elim (over_cases q (staging_path (root_path r c.root))
+        (above_child q (staging_path (root_path r c.root)) (decimal c.number) further)) [
           | inl same ↦
               not_staged q c changed
-              (subst (λ x. is_over (staging_path (root_path r c.root)) x ≡ true) (sym same) (over_itself (staging_path (root_path r c.root))))
+              (subst (λ x. is_over (staging_path (root_path r c.root)) x ≡ true) (sym same)
+              (over_itself (staging_path (root_path r c.root))))
           | inr above ↦
               not_at_root r roots q (root_path r c.root) (below_root q changed) (is_root r c.root)
               (above_child q (root_path r c.root) (codes ".kb-staged") above)
@@ -158,7 +166,9 @@ module _ (r : Roots) (s : Lists) (roots : AreRoots r) (valid : IsValidUnder r s)
                 | inl same ↦ absurd (q_private (subst (λ y. is_over at_build y ≡ true) (sym same) (over_itself at_build)))
                 | inr further ↦ elim (over_cases q version (above_child q version (codes "build") further)) [
                   | inl same ↦
-                      inl (inside s.wipes at_build x (valid.build_wiped w.0 w.1 w.2 (subst (λ y. (is_listed y s.first ≡ true) ⊎ (is_listed y s.second ≡ true)) same listed)) w.3)
+                      inl (inside s.wipes at_build x
+                      (valid.build_wiped w.0 w.1 w.2
+                      (subst (λ y. (is_listed y s.first ≡ true) ⊎ (is_listed y s.second ≡ true)) same listed)) w.3)
                   | inr above ↦
                       let q_up = above_child q (child r.dkms w.0) w.1 above in
                       elim (over_cases q (child r.dkms w.0) q_up) [
@@ -172,7 +182,17 @@ module _ (r : Roots) (s : Lists) (roots : AreRoots r) (valid : IsValidUnder r s)
                             | inl head ↦ no_private r roots q version below_root open_at (above_over q version above) head
                             | inr deeper ↦
                                 let z = build_parts r version deeper in
-                                omega (arith, length_over (build_at r z.0 z.1) version z.3, length_child (child (child r.dkms z.0) z.1) (codes "build"), length_child (child r.dkms z.0) z.1, length_child r.dkms z.0, length_child (child r.dkms w.0) w.1, length_child r.dkms w.0)
+                                omega (
+                                  arith,
+                                  length_over (build_at r z.0 z.1) version z.3,
+                                  length_child (child (child r.dkms z.0) z.1)
+                                      (codes "build"),
+                                  length_child (child r.dkms z.0) z.1,
+                                  length_child r.dkms z.0,
+                                  length_child
+                                      (child r.dkms w.0) w.1,
+                                  length_child r.dkms w.0,
+                                )
                           ]),
                         )
                       ]
@@ -243,6 +263,9 @@ module _ (r : Roots) (s : Lists) (roots : AreRoots r) (valid : IsValidUnder r s)
     staged = λ m h steady.
         let w = move_from s.puts m h in
         not_open r m.0
-        (or_left _ _ (untouched_private r m.0 (inside (untouched r) (staging_path (root_path r w.0.root)) m.0 (staging_kept_out r w.0.root) (subst (λ k. is_over (staging_path (root_path r w.0.root)) k ≡ true) (sym (ap (λ k. k.0) w.2)) (staged_under w.0))))) (and_parts _ _ (and_parts _ _ steady).1).0;
+        (or_left _ _ (untouched_private r m.0
+        (inside (untouched r) (staging_path (root_path r w.0.root)) m.0 (staging_kept_out r w.0.root)
+        (subst (λ k. is_over (staging_path (root_path r w.0.root)) k ≡ true) (sym (ap (λ k. k.0) w.2))
+        (staged_under w.0))))) (and_parts _ _ (and_parts _ _ steady).1).0;
     within = steady_within;
   }

@@ -145,7 +145,8 @@ module _ (p b : Path → Bool) (above : (q : Path) → p q ≡ true → (p (pare
         elim (cases_Bool (can_leave a e t)) [
           | inl does ↦ at_both t does ∙ sym (at_both u (sym can ∙ does))
           | inr doesnt ↦
-              ap (λ w. node_at w q) (effect_not a e t doesnt) ∙ same q is ∙ sym (ap (λ w. node_at w q) (effect_not a e u (sym can ∙ doesnt)))
+              ap (λ w. node_at w q) (effect_not a e t doesnt) ∙ same q is
+              ∙ sym (ap (λ w. node_at w q) (effect_not a e u (sym can ∙ doesnt)))
         ]
   ]
 
@@ -179,7 +180,14 @@ effect_softly ps a within e t q = elim (cases_Bool (can_leave a e t)) [
     | inl same ↦
         let front = and_parts _ _ (and_parts _ _ can).0 in
         let rest = and_parts _ _ (and_parts _ _ can).1 in
-        inr (within q (ap (reaches a) same ∙ front.0), ap (λ x. is_dir (node_at t x)) same ∙ not_so _ rest.0, ap is_dir (ap (λ v. node_at v q) (effect_does a e t can) ∙ ap (node_at (edited e.0 e.1 t)) same ∙ edited-here e.0 e.1 t) ∙ not_so _ front.1)
+        inr (
+          within q (ap (reaches a) same ∙ front.0),
+          ap (λ x. is_dir (node_at t x)) same
+              ∙ not_so _ rest.0,
+          ap is_dir
+              (ap (λ v. node_at v q) (effect_does a e t can) ∙ ap (node_at (edited e.0 e.1 t)) same ∙ edited-here e.0 e.1 t)
+              ∙ not_so _ front.1,
+        )
   ]
 ]
 
