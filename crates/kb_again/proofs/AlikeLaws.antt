@@ -1,5 +1,5 @@
 -- Trees that are alike but for the journal have one public and one foreign tree, since the journal is private.
-use Rattle.std.proofs.Common.{◌≡◌, Bool, true, false, cond, not, ◌&&◌, List, [], ◌∷◌, Option, None, inl, inr, refl, sym, ap, ◌∙◌}
+use Rattle.std.proofs.Common.{◌≡◌, Bool, true, false, cond, not, ◌&&◌, Option, None, inl, inr, refl, sym, ap, ◌∙◌}
 use Rattle.std.proofs.lemmas.Bool.{cases_Bool, false_from_ne_true, or_left}
 use Rattle.kb_world.specs.Path.{Path}
 use Rattle.kb_world.specs.Public.{is_private, is_public, is_loose, public_tree, foreign_tree}
@@ -44,15 +44,15 @@ alike_parts r a b alike = (same_tree _ _ public, same_tree _ _ foreign)
     public : (q : Path) → node_at (public_tree r a) q ≡ node_at (public_tree r b) q
     public q = node_at-public_tree r a q ∙ elim (cases_Bool (is_private r q)) [
       | inl is ↦
-        ap (λ t. cond t (node_at a q) None) (no_public r q (node_at a q) is)
-        ∙ sym (ap (λ t. cond t (node_at b q) None) (no_public r q (node_at b q) is))
+          ap (λ t. cond t (node_at a q) None) (no_public r q (node_at a q) is)
+          ∙ sym (ap (λ t. cond t (node_at b q) None) (no_public r q (node_at b q) is))
       | inr out ↦ ap (λ at. cond (is_public r q at) at None) (alike.shown q (open_shown r q out))
     ] ∙ sym (node_at-public_tree r b q)
 
     foreign : (q : Path) → node_at (foreign_tree r a) q ≡ node_at (foreign_tree r b) q
     foreign q = node_at-foreign_tree r a q ∙ elim (cases_Bool (is_private r q)) [
       | inl is ↦
-        ap (λ t. cond t (node_at a q) None) (no_foreign r q (node_at a q) is)
-        ∙ sym (ap (λ t. cond t (node_at b q) None) (no_foreign r q (node_at b q) is))
+          ap (λ t. cond t (node_at a q) None) (no_foreign r q (node_at a q) is)
+          ∙ sym (ap (λ t. cond t (node_at b q) None) (no_foreign r q (node_at b q) is))
       | inr out ↦ ap (λ at. cond (not (is_public r q at) && not (is_private r q)) at None) (alike.shown q (open_shown r q out))
     ] ∙ sym (node_at-foreign_tree r b q)

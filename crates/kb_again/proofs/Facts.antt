@@ -2,7 +2,7 @@
 use Rattle.std.specs.Prelude.{◌≡◌, ◌⊎◌, ℕ, Bool, true, not, ◌&&◌, ◌||◌, List, [], ◌∷◌, ◌++◌, map, codes, Option, Some, None, filter_map}
 use Rattle.std.specs.List.{list_any}
 use Rattle.kb_world.specs.Path.{Path, child}
-use Rattle.kb_world.specs.Public.{intent_path, staging_path, is_private}
+use Rattle.kb_world.specs.Public.{intent_path, is_private}
 use Rattle.kb_world.specs.Roots.{based_roots}
 use Rattle.kb_world.specs.StorePath.{key_of, is_key}
 use Rattle.kb_world.specs.View.{index_names}

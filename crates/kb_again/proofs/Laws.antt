@@ -1,5 +1,5 @@
 -- The laws: doing a valid intent's changes again is doing them once, and what soft areas may leave.
-use Rattle.std.proofs.Common.{◌≡◌, ◌∷◌, [], inl, inr, true, not, List, [], ◌++◌, map, take, sym, ap, ◌∙◌, subst}
+use Rattle.std.proofs.Common.{◌≡◌, ◌∷◌, refl, inl, inr, true, not, List, [], ◌++◌, map, take, sym, ap, ◌∙◌, subst}
 use Rattle.std.proofs.lemmas.Bool.{cases_Bool}
 use Rattle.kb_world.specs.Area.{IsLeft}
 use Rattle.kb_world.specs.Path.{Path}
