@@ -102,8 +102,8 @@ abbrev pub is_open : Roots → Path → Bool
 is_open r q = not (is_private r q)
 
 -- at or below a root that is written, and neither private nor an initrd's
-abbrev pub is_steady : Roots → Path → Bool
-is_steady r q = is_under_one (written_roots r) q && (is_open r q && not (is_initrd r q))
+abbrev pub is_kept : Roots → Path → Bool
+is_kept r q = is_under_one (written_roots r) q && (is_open r q && not (is_initrd r q))
 
 -- an initrd's, or above a root that is written
 abbrev pub is_beside : Roots → Path → Bool

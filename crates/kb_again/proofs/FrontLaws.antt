@@ -8,7 +8,7 @@ use Rattle.std.proofs.lemmas.Bool.{true≢false}
 use Rattle.kb_again.proofs.Standing.{Between}
 use Rattle.kb_again.proofs.PathLaws.{is_listed}
 use Rattle.kb_again.proofs.Ends.{Move, drop_at, wipe_at, drop_dir_at, make_dir_at, move_at, in_turn, IsMember, IsUpward, IsDownward}
-use Rattle.kb_again.proofs.Parts.{Groups, dropped_tree, wiped_tree, cleared_tree, made_tree, put_tree, done, IsValid, IsPart, in_drops, in_wipes, in_first, in_dirs, in_puts, in_second}
+use Rattle.kb_again.proofs.Parts.{Groups, dropped_tree, wiped_tree, cleared_tree, made_tree, put_tree, groups_done, IsValid, IsPart, in_drops, in_wipes, in_first, in_dirs, in_puts, in_second}
 use Rattle.kb_again.proofs.Flat.{Act, to_drop, to_wipe, to_drop_dir, to_make, do_act, do_acts, put_of, acts_of}
 use Rattle.kb_again.proofs.GroupLaws.{dropped, wiped, cleared, made}
 use Rattle.kb_again.proofs.AgainLaws.{none_dir}
@@ -119,7 +119,7 @@ group_then : {A : Type 0} (h : A → Act) (f : A → Tree → Tree) (same : (x :
 group_then h f same ps later t = in_turn-append do_act (map h ps) later t ∙ ap (do_acts later) (in_turn-map h f same ps t)
 
 -- in all, the changes are the groups one after another
-pub all_done : (g : Groups) (t : Tree) → do_acts (acts_of g) t ≡ done g t
+pub all_done : (g : Groups) (t : Tree) → do_acts (acts_of g) t ≡ groups_done g t
 all_done g t =
     let l5 = map to_drop_dir g.second in
     let l4 = map put_of g.puts ++ l5 in
@@ -217,7 +217,7 @@ front_is_part g front back t valid e = elim (split_front front back (map to_drop
                               subst (λ ps. Between (node_at t5) (node_at (in_turn drop_dir_at ps t5))
                               (node_at (in_turn drop_dir_at w.taken t5))) w.whole (clears_between w.taken w.left t5
                               (subst IsUpward (sym w.whole) valid.second_order)) in
-                              in_second (subst (λ u. Between (node_at t5) (node_at (done g t)) (node_at u))
+                              in_second (subst (λ u. Between (node_at t5) (node_at (groups_done g t)) (node_at u))
                               (sym (s5 ∙ after_front to_drop_dir drop_dir_at (λ p u. refl) l5.0 g.second w t5)) b)
                         ]
                   ]

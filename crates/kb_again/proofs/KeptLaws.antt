@@ -7,7 +7,7 @@ use Rattle.kb_again.proofs.PathLaws.{none_above_root, above_up, is_over, is_abov
 use Rattle.kb_world.specs.declared.tree.Node.{Node}
 use Rattle.kb_world.specs.Path.{parent, Path}
 use Rattle.kb_again.proofs.Ends.{Move, can_move, drop_at, wipe_at, drop_dir_at, make_dir_at, move_at, in_turn, is_under_one, IsMember, MovesApart}
-use Rattle.kb_again.proofs.Parts.{Groups, dropped_tree, wiped_tree, cleared_tree, made_tree, put_tree, done, IsValid, IsPart, in_second}
+use Rattle.kb_again.proofs.Parts.{Groups, dropped_tree, wiped_tree, cleared_tree, made_tree, put_tree, groups_done, IsValid, IsPart, in_second}
 use Rattle.kb_again.proofs.Kept.{SameOn, SameDirs, IsWhole, IsHidden, HasStaged, KeptSame, KeptAgain, KeptAfter}
 use Rattle.kb_again.proofs.EditLaws.{dir_is, dir_test, stands_some, some_stands, same_or_not, Empty, Filled}
 use Rattle.kb_again.proofs.GroupLaws.{dropped, wiped, drop_dir_cases, make_dir_cases}
@@ -122,7 +122,7 @@ module _ (g : Groups) (t : Tree) (whole : IsWhole t) where
       turn_whole move_at move_whole g.puts _
       (turn_whole make_dir_at make_dir_whole g.dirs _ (turn_whole drop_dir_at drop_dir_whole g.first _ wiped_whole))
 
-  pub done_is_whole : IsWhole (done g t)
+  pub done_is_whole : IsWhole (groups_done g t)
   done_is_whole = turn_whole drop_dir_at drop_dir_whole g.second _ put_whole
 
 -- ---- at one path
@@ -396,7 +396,7 @@ staged_kept g valid t m in_it = elim ((dirs_made g valid t).each m.0) [
 ]
 
 hard_same : (p b : Path → Bool) (g : Groups) (t u : Tree) → IsValid g → IsHidden p b g → IsWhole t → IsWhole u → SameOn p t u
-    → SameDirs b t u → HasStaged p g t u → SameOn p (done g t) (done g u) × SameDirs b (done g t) (done g u)
+    → SameDirs b t u → HasStaged p g t u → SameOn p (groups_done g t) (groups_done g u) × SameDirs b (groups_done g t) (groups_done g u)
 hard_same p b g t u valid hidden whole whole_u same dirs staged =
     let dirs_start : SameDirs b (wiped_tree g t) (wiped_tree g u) =
     wipes_dirs b g.wipes _ _ (λ q is. drops_dirs g.drops t q ∙ dirs q is ∙ sym (drops_dirs g.drops u q)) in
@@ -478,7 +478,7 @@ kept_again p b g t v u valid hidden part whole whole_u same dirs staged =
     ((λ q is. ap (λ w. node_at w q) once ∙ all.0 q is), (λ q is. ap (λ w. is_dir (node_at w q)) once ∙ all.1 q is))
 
 -- In a tree that all changes leave as it is, no staged file can be put in its place.
-pub fixed_cant : (g : Groups) (valid : IsValid g) (v : Tree) → done g v ≡ v → (m : Move) → IsMember m g.puts
+pub fixed_cant : (g : Groups) (valid : IsValid g) (v : Tree) → groups_done g v ≡ v → (m : Move) → IsMember m g.puts
     → can_move (node_at (made_tree g v)) m ≡ false
 fixed_cant g valid v fixed m in_it = false_from_ne_true _ (λ can.
     let parts = and_parts _ _ can in
@@ -502,8 +502,8 @@ fixed_cant g valid v fixed m in_it = false_from_ne_true _ (λ can.
 
 pub kept_after : KeptAfter
 kept_after p b g t u valid hidden whole whole_u same dirs staged =
-    let part : IsPart g t (done g t) = in_second (λ q. inr refl) in
-    kept_again p b g t (done g t) u valid hidden part (done_is_whole g t whole) whole_u same dirs (λ m h is. elim (staged m h) [
+    let part : IsPart g t (groups_done g t) = in_second (λ q. inr refl) in
+    kept_again p b g t (groups_done g t) u valid hidden part (done_is_whole g t whole) whole_u same dirs (λ m h is. elim (staged m h) [
       | inl file ↦ inl file
-      | inr none ↦ inr (none, fixed_cant g valid (done g t) (done_once g t (done g t) valid part) m h)
+      | inr none ↦ inr (none, fixed_cant g valid (groups_done g t) (done_once g t (groups_done g t) valid part) m h)
     ])

@@ -9,7 +9,7 @@ use Rattle.kb_world.specs.TreeLaws.{same_tree}
 use Rattle.kb_world.specs.Path.{parent, Path}
 use Rattle.kb_again.proofs.Standing.{Standing, Between, Solid, Holds, Cleared, Made}
 use Rattle.kb_again.proofs.Ends.{Move, wipe_at, drop_dir_at, make_dir_at, move_at, in_turn, is_under_one, Dropped, Wiped, IsMember, Moved}
-use Rattle.kb_again.proofs.Parts.{Groups, dropped_tree, wiped_tree, cleared_tree, made_tree, put_tree, done, IsValid, DoneOnce}
+use Rattle.kb_again.proofs.Parts.{Groups, dropped_tree, wiped_tree, cleared_tree, made_tree, put_tree, groups_done, IsValid, DoneOnce}
 use Rattle.kb_again.proofs.Parts.{in_drops, in_wipes, in_first, in_dirs, in_puts, in_second, in_runs}
 use Rattle.kb_again.proofs.EditLaws.{dir_is, dir_test}
 use Rattle.kb_again.proofs.GroupLaws.{dropped, wiped, cleared, made}
@@ -141,7 +141,7 @@ module _ (g : Groups) (valid : IsValid g) where
     pub dirs_made : Made g.dirs (node_at (cleared_tree g t)) (node_at (made_tree g t))
     dirs_made = made g.dirs (cleared_tree g t) valid.dirs_order valid.dirs_root
 
-    pub second_cleared : Cleared g.second (node_at (put_tree g t)) (node_at (done g t))
+    pub second_cleared : Cleared g.second (node_at (put_tree g t)) (node_at (groups_done g t))
     second_cleared = cleared g.second (put_tree g t) valid.second_order
 
     pub cleared_tree_free : IsFree g (node_at (cleared_tree g t))
@@ -153,7 +153,7 @@ module _ (g : Groups) (valid : IsValid g) where
     pub put_tree_free : IsFree g (node_at (put_tree g t))
     put_tree_free = moved_free g.puts (λ m in_it. in_it) _ _ (moved g.puts (made_tree g t)) made_tree_free
 
-    pub done_free : IsFree g (node_at (done g t))
+    pub done_free : IsFree g (node_at (groups_done g t))
     done_free = cleared_free g g.second _ _ second_cleared put_tree_free
 
     -- a directory that is there once all are made was made, or holds what doesn't go
@@ -225,13 +225,13 @@ module _ (g : Groups) (valid : IsValid g) where
     rest_of : Tree → Tree
     rest_of u = in_turn drop_dir_at g.second (in_turn move_at g.puts (again_dirs u))
 
-    from_third : (u : Tree) → IsFree g (node_at u) → done g u ≡ rest_of u
+    from_third : (u : Tree) → IsFree g (node_at u) → groups_done g u ≡ rest_of u
     unfolding rest_of again_dirs
     from_third u free =
         ap (λ v. in_turn drop_dir_at g.second (in_turn move_at g.puts (in_turn make_dir_at g.dirs (in_turn drop_dir_at g.first v))))
         (free_start u free)
 
-    in_dirs_once : (u : Tree) → Between (node_at (cleared_tree g t)) (node_at (made_tree g t)) (node_at u) → done g u ≡ done g t
+    in_dirs_once : (u : Tree) → Between (node_at (cleared_tree g t)) (node_at (made_tree g t)) (node_at u) → groups_done g u ≡ groups_done g t
     unfolding rest_of
     in_dirs_once u between =
         from_third u (between_free g _ _ _ cleared_tree_free made_tree_free between)
@@ -265,7 +265,7 @@ module _ (g : Groups) (valid : IsValid g) where
         }))))
 
     in_puts_once : (some : List Move) → ((m : Move) → IsMember m some → IsMember m g.puts)
-        → done g (in_turn move_at some (made_tree g t)) ≡ done g t
+        → groups_done g (in_turn move_at some (made_tree g t)) ≡ groups_done g t
     unfolding rest_of
     in_puts_once some sub =
         let u = in_turn move_at some (made_tree g t) in
@@ -280,20 +280,20 @@ module _ (g : Groups) (valid : IsValid g) where
         }))))
         ∙ ap (in_turn drop_dir_at g.second) (moves_before g.puts some valid.apart sub (made_tree g t))
 
-    in_second_once : (u : Tree) → Between (node_at (put_tree g t)) (node_at (done g t)) (node_at u) → done g u ≡ done g t
+    in_second_once : (u : Tree) → Between (node_at (put_tree g t)) (node_at (groups_done g t)) (node_at u) → groups_done g u ≡ groups_done g t
     unfolding rest_of
     in_second_once u between =
         let m = moved g.puts (made_tree g t) in
         let c = second_cleared in
-        let between_dir : (look : Standing) → Between (node_at (put_tree g t)) (node_at (done g t)) look →
+        let between_dir : (look : Standing) → Between (node_at (put_tree g t)) (node_at (groups_done g t)) look →
         (q : Path) → look q ≡ Some node.Dir → node_at (put_tree g t) q ≡ Some node.Dir =
         λ look b q dir. elim (b q) [
           | inl was ↦ sym was ∙ dir
           | inr now ↦ elim (c.each q) [ inl same ↦ sym same ∙ sym now ∙ dir | inr goes ↦ goes.was ]
         ] in
         let v = again_dirs u in
-        let reaches : Between (node_at (put_tree g t)) (node_at (done g t)) (node_at v) =
-        again (node_at (put_tree g t)) (node_at (done g t)) u (record {
+        let reaches : Between (node_at (put_tree g t)) (node_at (groups_done g t)) (node_at v) =
+        again (node_at (put_tree g t)) (node_at (groups_done g t)) u (record {
           each = λ q. inl (between q);
           held = λ q listed dir. elim (moved_held g.puts (λ k in_it. in_it) _ m q listed (between_dir (node_at u) between q dir)) [
             | inl made ↦ inl made
@@ -338,7 +338,7 @@ module _ (g : Groups) (valid : IsValid g) where
         true≢false (sym (and_from _ _ (and_from _ _ file no_dir) above) ∙ all_moved g.puts valid.apart k in_it (made_tree g t)))) in
         from_third u (between_free g _ _ _ put_tree_free done_free between)
         ∙ ap (in_turn drop_dir_at g.second) still
-        ∙ same_tree _ _ (cleared_again g.second (node_at (put_tree g t)) (node_at (done g t)) (node_at v) _ c
+        ∙ same_tree _ _ (cleared_again g.second (node_at (put_tree g t)) (node_at (groups_done g t)) (node_at v) _ c
         (cleared g.second v valid.second_order) reaches)
 
 pub done_once : DoneOnce
@@ -362,12 +362,12 @@ done_once g t u valid (in_first between) =
     (free_start g valid u (between_free g _ _ _ (wiped_free g valid t) (cleared_free g g.first _ _ c (wiped_free g valid t)) between))
     ∙ same_tree _ _ (cleared_again g.first _ _ _ _ c (cleared g.first u valid.first_order) between))
 done_once g t u valid (in_dirs between) = in_dirs_once g valid t u between
-done_once g t u valid (in_puts some sub is) = ap (done g) is ∙ in_puts_once g valid t some sub
+done_once g t u valid (in_puts some sub is) = ap (groups_done g) is ∙ in_puts_once g valid t some sub
 done_once g t u valid (in_second between) = in_second_once g valid t u between
 done_once g t u valid (in_runs soft) =
     let d = dropped g.drops u in
     let free = done_free g valid t in
-    let same : dropped_tree g u ≡ done g t = same_tree _ _ (λ q. elim (soft q) [
+    let same : dropped_tree g u ≡ groups_done g t = same_tree _ _ (λ q. elim (soft q) [
       | inl same ↦ elim (d.each q) [ inl kept ↦ kept ∙ same | inr gone ↦ absurd (free.no_file q gone.0 (ap is_leaf (sym same) ∙ gone.1)) ]
       | inr open_at ↦
           nothing_else _ (elim (d.each q) [ inl kept ↦ ap is_dir kept ∙ open_at.2 | inr gone ↦ ap is_dir gone.2 ]) (d.gone q open_at.0)
@@ -375,5 +375,5 @@ done_once g t u valid (in_runs soft) =
     ]) in
     ap (λ v. in_turn drop_dir_at g.second
     (in_turn move_at g.puts (in_turn make_dir_at g.dirs (in_turn drop_dir_at g.first (in_turn wipe_at g.wipes v)))))
-    (same ∙ sym (free_dropped g (done g t) free.no_file))
-    ∙ in_second_once g valid t (done g t) (λ q. inr refl)
+    (same ∙ sym (free_dropped g (groups_done g t) free.no_file))
+    ∙ in_second_once g valid t (groups_done g t) (λ q. inr refl)

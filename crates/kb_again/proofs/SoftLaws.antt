@@ -18,7 +18,7 @@ use Rattle.kb_changes.specs.declared.change.RootName.TheVariants as root_name
 use Rattle.kb_again.specs.Sparing.{reaches, is_list_of_names, counts}
 use Rattle.kb_again.proofs.Ends.{is_under_one, IsMember}
 use Rattle.kb_again.specs.Within.{staging_paths}
-use Rattle.kb_again.proofs.Facts.{all_roots, AreRoots, untouched, build_at, is_open, is_steady, is_beside, StagedPut, staged_at, Lists, changed_paths, IsValidUnder}
+use Rattle.kb_again.proofs.Facts.{all_roots, AreRoots, untouched, build_at, is_open, is_kept, is_beside, StagedPut, staged_at, Lists, changed_paths, IsValidUnder}
 use Rattle.kb_again.proofs.FrontLaws.{listed_left}
 use Rattle.kb_again.proofs.KeptLaws.{one_above}
 use Rattle.kb_again.proofs.PathLaws.{is_over, is_above, is_listed, over_over, over_itself, over_cases, above_over, above_over_above, not_back, not_so, listed_first, listed_more}
@@ -243,10 +243,10 @@ module _ (r : Roots) (s : Lists) (roots : AreRoots r) (valid : IsValidUnder r s)
   pub written_more : (q x : Path) → is_under_one (written_roots r) q ≡ true → is_over q x ≡ true → is_under_one (written_roots r) x ≡ true
   written_more q x h under = one_above (written_roots r) q x under h
 
-  steady_soft : (q : Path) (was left : Option Node) → is_steady r q ≡ true → Lets (IsFit r s.runs) q was left
+  kept_soft : (q : Path) (was left : Option Node) → is_kept r q ≡ true → Lets (IsFit r s.runs) q was left
       → (is_listed q s.drops ≡ true) × (is_dir was ≡ false) × (is_dir left ≡ false)
-  steady_soft q was left steady l =
-      let parts = and_parts _ _ steady in
+  kept_soft q was left kept l =
+      let parts = and_parts _ _ kept in
       let inner = and_parts _ _ parts.1 in
       let held = lets-in l.area q was left l.lets in
       let run = fit_index l.area l.fits q held (counted l.area q parts.0 inner.0 (inr (not_so _ inner.1))) in
@@ -318,12 +318,12 @@ module _ (r : Roots) (s : Lists) (roots : AreRoots r) (valid : IsValidUnder r s)
 pub soft_behind : (r : Roots) (s : Lists) (soft : List Area) (v u : Tree) → AreRoots r → IsValidUnder r s
     → AllByRecursion (IsFit r s.runs) soft → IsLeftIn soft v u → IsSoftBehind r s v u
 soft_behind r s soft v u roots valid fit left = record {
-  steady =
-      λ q steady. elim
+  kept =
+      λ q kept. elim
       (left q) [
         | inl same ↦ inl same
         | inr lets ↦ inr
-            (steady_soft r s roots valid q (node_at v q) (node_at u q) steady
+            (kept_soft r s roots valid q (node_at v q) (node_at u q) kept
             (some_area (IsFit r s.runs) soft q (node_at v q) (node_at u q) fit lets))
       ];
   dirs =

@@ -14,7 +14,7 @@ use Rattle.kb_again.proofs.Facts.{untouched, AreRoots, is_open, staged_at, Stage
 use Rattle.kb_again.proofs.FrontLaws.{listed_left}
 use Rattle.kb_again.proofs.Kept.{SameOn, SameDirs, IsWhole, IsHidden}
 use Rattle.kb_again.proofs.KeptLaws.{kept_same, one_above, parent_under}
-use Rattle.kb_again.proofs.Parts.{done}
+use Rattle.kb_again.proofs.Parts.{groups_done}
 use Rattle.kb_again.proofs.PathLaws.{is_over, is_above, is_listed, over_itself, over_cases, above_over}
 use Rattle.kb_again.proofs.RootLaws.{above_child, over_or_above, inside, inside_some, private_entry, not_at_root, not_open, staging_kept_out, untouched_private}
 use Rattle.kb_again.proofs.RunLaws.{base_open, seen_open}
@@ -187,8 +187,8 @@ module _ (r : Roots) (s : Lists) (roots : AreRoots r) (valid : IsValidUnder r s)
 pub record AreSeenAlike (f : Script) (r : Roots) (s : Lists) (t u : Tree) : Type 0 where
   pub same : SameOn (is_plain r) (after_all f r s t) (after_all f r s u)
   pub dirs : SameDirs (λ q. not (is_plain r q)) (after_all f r s t) (after_all f r s u)
-  pub replies : run_replies f r s.runs (done (groups_of r s) t) ≡ run_replies f r s.runs (done (groups_of r s) u)
-  pub made : runs_made f r s.runs (done (groups_of r s) t) ≡ runs_made f r s.runs (done (groups_of r s) u)
+  pub replies : run_replies f r s.runs (groups_done (groups_of r s) t) ≡ run_replies f r s.runs (groups_done (groups_of r s) u)
+  pub made : runs_made f r s.runs (groups_done (groups_of r s) t) ≡ runs_made f r s.runs (groups_done (groups_of r s) u)
 
 pub seen_alike_all : (f : Script) (r : Roots) (s : Lists) (t u : Tree) → AreRoots r → IsValidUnder r s → IsWhole t → IsWhole u
     → SameOn (is_plain r) t u → SameDirs (λ q. not (is_plain r q)) t u
@@ -203,7 +203,7 @@ seen_alike_all f r s t u roots valid whole whole_u same dirs staged =
     record {
       same = unseen f r s t u roots valid whole whole_u same staged;
       dirs =
-          λ q is. runs_dirs f r s.runs (done (groups_of r s) t) q ∙ groups.1 q is ∙ sym (runs_dirs f r s.runs (done (groups_of r s) u) q);
+          λ q is. runs_dirs f r s.runs (groups_done (groups_of r s) t) q ∙ groups.1 q is ∙ sym (runs_dirs f r s.runs (groups_done (groups_of r s) u) q);
       replies = all.0;
       made = all.1;
     }
