@@ -3,5 +3,14 @@
 #![tactic(auto)]
 
 mod change;
+mod group;
+mod ordered;
+mod path_set;
+mod placed;
+mod roots;
+mod runs;
+mod valid;
 
 pub use change::{Change, Intent, Recovered, RootName};
+pub use roots::staged_path;
+pub use valid::is_valid;
