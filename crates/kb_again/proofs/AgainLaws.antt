@@ -36,7 +36,8 @@ cleared_again ps old new mid end first second between q =
                 let w = first.full q goes.listed (sym here ∙ goes.was) in
                 let new_has : new w.path ≡ old w.path = solid_kept ps old new w.path first w.solid in
                 let mid_has : mid w.path ≡ old w.path = elim (between w.path) [ inl t ↦ t | inr n ↦ n ∙ new_has ] in
-                absurd (holds_on ps mid end q second (record { path = w.path; under = w.under; solid = solid_same ps old mid w.path mid_has w.solid }) goes)
+                absurd (holds_on ps mid end q second
+                (record { path = w.path; under = w.under; solid = solid_same ps old mid w.path mid_has w.solid }) goes)
           ]
       | inr gone ↦ elim (second.each q) [
         | inr goes ↦ goes.gone ∙ sym gone.gone

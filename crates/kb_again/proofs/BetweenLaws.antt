@@ -18,7 +18,8 @@ use Rattle.kb_changes.specs.Valid.{new_intent_path}
 use Rattle.kb_changes.specs.declared.change.RootName.TheVariants as root_name
 use Rattle.kb_again.specs.Sparing.{IsSparing}
 use Rattle.kb_again.proofs.Ends.{is_under_one, IsMember}
-use Rattle.kb_again.proofs.Facts.{all_roots, staging_paths, is_steady, is_beside, staged_at, AreRoots, Lists, groups_of, IsValidUnder}
+use Rattle.kb_again.specs.Within.{staging_paths}
+use Rattle.kb_again.proofs.Facts.{all_roots, is_kept, is_beside, staged_at, AreRoots, Lists, groups_of, IsValidUnder}
 use Rattle.kb_again.proofs.Flat.{Act, to_drop, to_wipe, to_drop_dir, to_make, to_put, do_act, do_acts, acts_of}
 use Rattle.kb_again.proofs.FrontLaws.{in_turn-append}
 use Rattle.kb_again.proofs.JournalLaws.{journal_stays}
@@ -155,7 +156,8 @@ module _ (f : Script) (r : Roots) (s : Lists) (soft : List Area) (t u : Tree) (r
   fits : (xs ys : List Step) → xs ++ ys ≡ steps_of r s → AllByRecursion (IsFit r s.runs) (areas_in xs ++ soft)
   fits xs ys e =
       spares_fit r s.runs (areas_in xs) soft
-      (areas_fit r s.runs xs (λ c h. member_run c (acts_of (groups_of r s)) s.runs (subst (IsMember (run c)) e (member_front (run c) xs ys h)))) spares
+      (areas_fit r s.runs xs
+      (λ c h. member_run c (acts_of (groups_of r s)) s.runs (subst (IsMember (run c)) e (member_front (run c) xs ys h)))) spares
 
   ends_alike : node_at u (intent_path r) ≡ node_at t (intent_path r) → IsBehind f r s t u → EndsAlike f r s t u
   ends_alike journal left = record { public = public_left f r s t u roots valid whole whole_u left; journal = journal }
@@ -169,8 +171,9 @@ module _ (f : Script) (r : Roots) (s : Lists) (soft : List Area) (t u : Tree) (r
       let ran : node_at (after_runs f r s taken t) (intent_path r) ≡ node_at t (intent_path r) =
       ap (λ v. node_at v (intent_path r)) (sym (steps_all f r s taken t))
       ∙ journal_stays f r s (map act (acts_of (groups_of r s)) ++ map run taken) (map run left) t roots valid
-      (append_assoc (map act (acts_of (groups_of r s))) (map run taken) (map run left) ∙ ap (λ l. map act (acts_of (groups_of r s)) ++ l) (sym (map_append run taken left) ∙ ap (map run) e)) in
-      ends_alike (b.journal ∙ ran) (among_runs taken left e b.steady b.dirs (λ c h. inl (b.staged c h)))
+      (append_assoc (map act (acts_of (groups_of r s))) (map run taken) (map run left)
+      ∙ ap (λ l. map act (acts_of (groups_of r s)) ++ l) (sym (map_append run taken left) ∙ ap (map run) e)) in
+      ends_alike (b.journal ∙ ran) (among_runs taken left e b.kept b.dirs (λ c h. inl (b.staged c h)))
     where
       map_append : {A B : Type 0} (h : A → B) (xs ys : List A) → map h (xs ++ ys) ≡ map h xs ++ map h ys
       map_append h [] ys = refl
@@ -190,7 +193,8 @@ module _ (f : Script) (r : Roots) (s : Lists) (soft : List Area) (t u : Tree) (r
       ap (λ x. node_at x (intent_path r)) (sym (in_turn-append (do_step f r) front (act c ∷ []) t))
       ∙ journal_stays f r s (front ++ act c ∷ []) back t roots valid (append_assoc front (act c ∷ []) back ∙ e) in
       ends_alike (b.journal ∙ at_journal c within before after)
-      (among_groups v (within_is_part (groups_of r s) w.0 w.1 c t v (groups_valid r s roots valid) w.3 (subst (λ x. IsCut c x v) is within)) whole_v b.steady b.dirs b.staged)
+      (among_groups v (within_is_part (groups_of r s) w.0 w.1 c t v (groups_valid r s roots valid) w.3
+      (subst (λ x. IsCut c x v) is within)) whole_v b.kept b.dirs b.staged)
     where
       at_journal : (c : Act) → IsCut c (do_steps f r front t) v → node_at (do_steps f r front t) (intent_path r) ≡ node_at t (intent_path r)
           → node_at (do_act c (do_steps f r front t)) (intent_path r) ≡ node_at t (intent_path r)
@@ -234,9 +238,9 @@ module _ (f : Script) (r : Roots) (s : Lists) (soft : List Area) (t u : Tree) (r
 staging_private : (r : Roots) (q : Path) → is_under_one (staging_paths r) q ≡ true → is_under_one (private_places r) q ≡ true
 staging_private r q h = untouched_private r q (or_right (is_over (intent_path r) q) _ (or_right (is_over (new_intent_path r) q) _ h))
 
--- what is staged is neither steady nor beside, and the journal isn't staged
-not_steady : (r : Roots) (q : Path) → is_under_one (staging_paths r) q ≡ true → is_steady r q ≡ true → ⊥
-not_steady r q h steady = not_open r q (or_left _ _ (staging_private r q h)) (and_parts _ _ (and_parts _ _ steady).1).0
+-- what is staged is neither kept nor beside, and the journal isn't staged
+not_kept : (r : Roots) (q : Path) → is_under_one (staging_paths r) q ≡ true → is_kept r q ≡ true → ⊥
+not_kept r q h kept = not_open r q (or_left _ _ (staging_private r q h)) (and_parts _ _ (and_parts _ _ kept).1).0
 
 not_beside_staged : (r : Roots) → AreRoots r → (q : Path) → is_under_one (staging_paths r) q ≡ true → is_beside r q ≡ true → ⊥
 not_beside_staged r roots q h beside = elim (or_cases _ _ beside) [
@@ -246,12 +250,14 @@ not_beside_staged r roots q h beside = elim (or_cases _ _ beside) [
       let w = inside_some (private_places r) q (staging_private r q h) in
       let f = private_entry r w.0 w.1 in
       disjoint_below (all_roots r) roots.disjoint f.0 x.0 f.2 x.1
-      (above_over_above f.0 w.0 x.0 (subst (λ y. is_above f.0 y ≡ true) (sym f.3) (child_above f.0 f.1)) (over_over w.0 q x.0 w.2 (above_over q x.0 x.2)))
+      (above_over_above f.0 w.0 x.0 (subst (λ y. is_above f.0 y ≡ true) (sym f.3) (child_above f.0 f.1))
+      (over_over w.0 q x.0 w.2 (above_over q x.0 x.2)))
 ]
 
 pub staging_keeps : (f : Script) (r : Roots) (s : Lists) (soft : List Area) (t v u : Tree) → AreRoots r → IsValidUnder r s → IsWhole t
     → AllByRecursion (IsSparing r (run_areas s.runs)) soft
-    → ((q : Path) → (node_at v q ≡ node_at (do_steps f r (steps_of r s) t) q) ⊎ ((is_under_one (staging_paths r) q ≡ true) × (node_at v q ≡ None)))
+    → ((q : Path) → (node_at v q ≡ node_at (do_steps f r (steps_of r s) t) q) ⊎
+    ((is_under_one (staging_paths r) q ≡ true) × (node_at v q ≡ None)))
     → IsLeftIn soft v u → IsWhole u → EndsAlike f r s t u
 staging_keeps f r s soft t v u roots valid whole spares unstaged left whole_u =
     let w = after_runs f r s s.runs t in
@@ -266,10 +272,13 @@ staging_keeps f r s soft t v u roots valid whole spares unstaged left whole_u =
     ] in
     ends_alike f r s soft t u roots valid whole spares whole_u (b.journal ∙ at_journal)
     (among_runs s.runs [] (append-nil s.runs)
-    (λ q steady. elim (gone q) [
+    (λ q kept. elim (gone q) [
       | inl same ↦
-          elim (b.steady q steady) [ inl now ↦ inl (now ∙ same) | inr soft_at ↦ inr (soft_at.0, ap is_dir (sym same) ∙ soft_at.1, soft_at.2) ]
-      | inr staged ↦ absurd (not_steady r q staged.0 steady)
+          elim (b.kept q kept) [
+            | inl now ↦ inl (now ∙ same)
+            | inr soft_at ↦ inr (soft_at.0, ap is_dir (sym same) ∙ soft_at.1, soft_at.2)
+          ]
+      | inr staged ↦ absurd (not_kept r q staged.0 kept)
     ])
     (λ q beside. elim (gone q) [
       | inl same ↦ ap is_dir (sym same) ∙ b.dirs q beside
@@ -302,8 +311,10 @@ staging_keeps f r s soft t v u roots valid whole spares unstaged left whole_u =
         one x is under = elim (over_cases (child x (codes ".kb-staged")) (intent_path r) under) [
           | inl same ↦
               let roots_same : x ≡ r.dkms = same_front x r.dkms (codes ".kb-staged") (codes ".intent") same in
-              names_differ (same_last x (codes ".kb-staged") (codes ".intent") (same ∙ ap (λ p. child p (codes ".intent")) (sym roots_same)))
+              names_differ (same_last x (codes ".kb-staged") (codes ".intent")
+              (same ∙ ap (λ p. child p (codes ".intent")) (sym roots_same)))
           | inr below ↦
               disjoint_below (all_roots r) roots.disjoint x r.dkms is (is_root r root_name.Dkms)
-              (above_over_above x (child x (codes ".kb-staged")) r.dkms (child_above x (codes ".kb-staged")) (above_child (child x (codes ".kb-staged")) r.dkms (codes ".intent") below))
+              (above_over_above x (child x (codes ".kb-staged")) r.dkms (child_above x (codes ".kb-staged"))
+              (above_child (child x (codes ".kb-staged")) r.dkms (codes ".intent") below))
         ]

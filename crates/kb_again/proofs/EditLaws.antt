@@ -47,7 +47,10 @@ none_in p (k ∷ ks) h r below = elim (same_or_not r k) [
   | inl same ↦ absurd (true≢false (sym (ap (λ b. b || list_any (is_above p) ks) (ap (is_above p) (sym same) ∙ below)) ∙ h))
   | inr other ↦
       ap (λ b. b || is_listed r ks) (same_path-false r k other)
-      ∙ none_in p ks (elim (cases_Bool (is_above p k)) [ inl here ↦ absurd (true≢false (sym (ap (λ b. b || list_any (is_above p) ks) here) ∙ h)) | inr not_here ↦ sym (ap (λ b. b || list_any (is_above p) ks) not_here) ∙ h ]) r below
+      ∙ none_in p ks (elim (cases_Bool (is_above p k)) [
+        | inl here ↦ absurd (true≢false (sym (ap (λ b. b || list_any (is_above p) ks) here) ∙ h))
+        | inr not_here ↦ sym (ap (λ b. b || list_any (is_above p) ks) not_here) ∙ h
+      ]) r below
 ]
 
 pub record Empty (t : Tree) (p : Path) : Type 0 where

@@ -75,7 +75,8 @@ pub record Disjoint (m n : Move) : Type 0 where
 pub record Moved (ms : List Move) (old new : Standing) : Type 0 where
   pub each : (q : Path)
       → (new q ≡ old q) ⊎
-      ((is_dir (old q) ≡ false) × (((m : Move) × IsMember m ms × (m.0 ≡ q) × (new q ≡ None)) ⊎ ((m : Move) × IsMember m ms × (m.1 ≡ q) × (is_leaf (new q) ≡ true))))
+      ((is_dir (old q) ≡ false) ×
+      (((m : Move) × IsMember m ms × (m.0 ≡ q) × (new q ≡ None)) ⊎ ((m : Move) × IsMember m ms × (m.1 ≡ q) × (is_leaf (new q) ≡ true))))
 
 -- two moves of a list are one, or have no path in common
 pub record MovesApart (ms : List Move) : Type 0 where

@@ -16,11 +16,12 @@ use Rattle.kb_world.specs.declared.child.Request.{Request}
 use Rattle.kb_world.specs.declared.roots.Roots.{Roots}
 use Rattle.kb_world.proofs.PathLaws.{under-append, drop-front}
 use Rattle.kb_changes.specs.Groups.{drops_in, wipes_in, drop_dirs_in, first_drop_dirs, second_drop_dirs, dirs_in, targets_in, staged_in, runs_in}
-use Rattle.kb_changes.specs.Valid.{are_in_order, deepest_first, deepest_last, are_ordered, is_among_paths, none_among, none_under, none_below, all_differ, are_version_names, is_version_dir, is_scratch_wiped, are_compatible, written_roots, new_intent_path, is_kept_out, is_initrd, is_changeable, is_well_placed, same_paths, is_kernel_name, is_fit_area, is_fit_run, is_valid}
+use Rattle.kb_changes.specs.Valid.{are_in_order, deepest_first, deepest_last, are_ordered, is_among_paths, none_among, none_under, none_below, all_differ, are_version_names, is_version_dir, is_scratch_wiped, are_targets_kept, are_dirs_kept, are_well_placed, are_fit_runs, written_roots, new_intent_path, is_kept_out, is_initrd, is_changeable, is_well_placed, same_paths, is_kernel_name, is_fit_area, is_fit_run, is_valid}
 use Rattle.kb_changes.specs.declared.change.Change.{Change}
 use Rattle.kb_changes.specs.declared.change.Change.TheVariants.{Dir, Put, Drop, DropDir, Wipe, Run}
 use Rattle.kb_again.proofs.Ends.{is_under_one, IsMember, IsUpward, IsDownward}
-use Rattle.kb_again.proofs.Facts.{StagedPut, puts_in, lists_of, staged_at, targets, changed_paths, staging_paths, untouched, build_at, AreDifferent, IsIndexRun, IsValidUnder}
+use Rattle.kb_again.specs.Within.{staging_paths}
+use Rattle.kb_again.proofs.Facts.{StagedPut, puts_in, lists_of, staged_at, targets, changed_paths, untouched, build_at, AreDifferent, IsIndexRun, IsValidUnder}
 use Rattle.kb_again.proofs.PathLaws.{is_over, is_above, is_listed, same_bytes, listed_cons, listed_first, listed_more}
 use Rattle.kb_again.proofs.PlaceLaws.{entry_is}
 use Rattle.kb_again.proofs.RootLaws.{of_all}
@@ -96,8 +97,10 @@ different r (c ∷ cs) h k =
     let apart = and_parts _ _ h in
     let apart_staged = and_parts _ _ k in (
       (λ d in_it. (
-        (λ same. no _ apart.0 (subst (λ x. is_listed x (map (λ e. e.target) cs) ≡ true) (sym same) (mapped_member (λ e. e.target) cs d in_it))),
-        (λ same. no _ apart_staged.0 (subst (λ x. is_listed x (map (staged_at r) cs) ≡ true) (sym same) (mapped_member (staged_at r) cs d in_it))),
+        (λ same. no _ apart.0
+            (subst (λ x. is_listed x (map (λ e. e.target) cs) ≡ true) (sym same) (mapped_member (λ e. e.target) cs d in_it))),
+        (λ same. no _ apart_staged.0
+            (subst (λ x. is_listed x (map (staged_at r) cs) ≡ true) (sym same) (mapped_member (staged_at r) cs d in_it))),
       )),
       different r cs apart.1 apart_staged.1,
     )
@@ -120,21 +123,56 @@ record ArePlaced (r : Roots) (cs : List Change) : Type 0 where
 placed : (r : Roots) (cs : List Change) → list_all (is_well_placed r) cs ≡ true → ArePlaced r cs
 placed r [] h = record { drops = refl; wipes = refl; drop_dirs = refl; dirs = refl; targets = refl }
 placed r (Drop path ∷ cs) h =
-    let rest = placed r cs (and_parts _ _ h).1 in
-    record { drops = all_more r path (drops_in cs) (and_parts _ _ h).0 rest.drops; wipes = rest.wipes; drop_dirs = rest.drop_dirs; dirs = rest.dirs; targets = rest.targets }
+    let both = and_parts _ _ h in
+    let rest = placed r cs both.1 in
+    record {
+      drops = all_more r path (drops_in cs) both.0 rest.drops;
+      wipes = rest.wipes;
+      drop_dirs = rest.drop_dirs;
+      dirs = rest.dirs;
+      targets = rest.targets;
+    }
 placed r (Wipe path ∷ cs) h =
-    let rest = placed r cs (and_parts _ _ h).1 in
-    record { drops = rest.drops; wipes = all_more r path (wipes_in cs) (and_parts _ _ h).0 rest.wipes; drop_dirs = rest.drop_dirs; dirs = rest.dirs; targets = rest.targets }
+    let both = and_parts _ _ h in
+    let rest = placed r cs both.1 in
+    record {
+      drops = rest.drops;
+      wipes = all_more r path (wipes_in cs) both.0 rest.wipes;
+      drop_dirs = rest.drop_dirs;
+      dirs = rest.dirs;
+      targets = rest.targets;
+    }
 placed r (DropDir path ∷ cs) h =
-    let rest = placed r cs (and_parts _ _ h).1 in
-    record { drops = rest.drops; wipes = rest.wipes; drop_dirs = all_more r path (drop_dirs_in cs) (and_parts _ _ h).0 rest.drop_dirs; dirs = rest.dirs; targets = rest.targets }
+    let both = and_parts _ _ h in
+    let rest = placed r cs both.1 in
+    record {
+      drops = rest.drops;
+      wipes = rest.wipes;
+      drop_dirs = all_more r path (drop_dirs_in cs) both.0 rest.drop_dirs;
+      dirs = rest.dirs;
+      targets = rest.targets;
+    }
 placed r (Dir path ∷ cs) h =
-    let rest = placed r cs (and_parts _ _ h).1 in
-    record { drops = rest.drops; wipes = rest.wipes; drop_dirs = rest.drop_dirs; dirs = all_more r path (dirs_in cs) (and_parts _ _ h).0 rest.dirs; targets = rest.targets }
+    let both = and_parts _ _ h in
+    let rest = placed r cs both.1 in
+    record {
+      drops = rest.drops;
+      wipes = rest.wipes;
+      drop_dirs = rest.drop_dirs;
+      dirs = all_more r path (dirs_in cs) both.0 rest.dirs;
+      targets = rest.targets;
+    }
 placed r (Put name number target ∷ cs) h =
-    let rest = placed r cs (and_parts _ _ h).1 in
-    let here = (and_parts (is_changeable r target) _ (and_parts _ _ h).0).0 in
-    record { drops = rest.drops; wipes = rest.wipes; drop_dirs = rest.drop_dirs; dirs = rest.dirs; targets = all_more r target (targets_in cs) here rest.targets }
+    let both = and_parts _ _ h in
+    let rest = placed r cs both.1 in
+    let here = (and_parts (is_changeable r target) _ both.0).0 in
+    record {
+      drops = rest.drops;
+      wipes = rest.wipes;
+      drop_dirs = rest.drop_dirs;
+      dirs = rest.dirs;
+      targets = all_more r target (targets_in cs) here rest.targets;
+    }
 placed r (Run request ∷ cs) h =
     let rest = placed r cs h in
     record { drops = rest.drops; wipes = rest.wipes; drop_dirs = rest.drop_dirs; dirs = rest.dirs; targets = rest.targets }
@@ -279,19 +317,19 @@ pub record IsKnownValid (r : Roots) (cs : List Change) : Type 0 where
 pub known_valid : (r : Roots) (cs : List Change) → is_valid r cs ≡ true → IsKnownValid r cs
 known_valid r cs h =
     let s = lists_of cs in
-    let runs_fit = and_parts (are_ordered cs && are_compatible r cs && list_all (is_well_placed r) cs) _ h in
-    let well_placed = and_parts (are_ordered cs && are_compatible r cs) _ runs_fit.0 in
-    let fitting = and_parts (are_ordered cs) (are_compatible r cs) well_placed.0 in
+    let runs_fit = and_parts (are_ordered cs && are_targets_kept r cs && are_dirs_kept r cs && are_well_placed r cs) (are_fit_runs r cs) h in
+    let well_placed = and_parts (are_ordered cs && are_targets_kept r cs && are_dirs_kept r cs) (are_well_placed r cs) runs_fit.0 in
+    let dirs_kept = and_parts (are_ordered cs && are_targets_kept r cs) (are_dirs_kept r cs) well_placed.0 in
+    let fitting = and_parts (are_ordered cs) (are_targets_kept r cs) dirs_kept.0 in
     let last = and_parts _ (deepest_last (dirs_in cs)) fitting.0 in
     let second = and_parts _ (deepest_first (second_drop_dirs cs)) last.0 in
     let first = and_parts (are_in_order 0 cs) (deepest_first (first_drop_dirs cs)) second.0 in
-    let c8 = and_parts _ (list_all (is_scratch_wiped r (wipes_in cs)) (drop_dirs_in cs)) fitting.1 in
-    let c7 = and_parts _ (none_below (first_drop_dirs cs) (second_drop_dirs cs)) c8.0 in
-    let c6 = and_parts _ (none_under (wipes_in cs) (dirs_in cs)) c7.0 in
-    let c5 = and_parts _ (all_differ (staged_in r cs)) c6.0 in
-    let c4 = and_parts _ (all_differ (targets_in cs)) c5.0 in
-    let c3 = and_parts _ (none_among (second_drop_dirs cs) (targets_in cs)) c4.0 in
-    let c2 = and_parts (none_under (wipes_in cs) (targets_in cs)) (none_among (drops_in cs) (targets_in cs)) c3.0 in
+    let scratch = and_parts _ (list_all (is_scratch_wiped r (wipes_in cs)) (drop_dirs_in cs)) dirs_kept.1 in
+    let apart = and_parts (none_under (wipes_in cs) (dirs_in cs)) (none_below (first_drop_dirs cs) (second_drop_dirs cs)) scratch.0 in
+    let staged = and_parts _ (all_differ (staged_in r cs)) fitting.1 in
+    let targets = and_parts _ (all_differ (targets_in cs)) staged.0 in
+    let unlisted = and_parts _ (none_among (second_drop_dirs cs) (targets_in cs)) targets.0 in
+    let undropped = and_parts (none_under (wipes_in cs) (targets_in cs)) (none_among (drops_in cs) (targets_in cs)) unlisted.0 in
     let at : (c : StagedPut) → IsMember c (puts_in cs) → is_listed c.target (targets_in cs) ≡ true = λ c in_it.
     ap (is_listed c.target) (targets_are cs) ∙ mapped_member (λ e. e.target) (puts_in cs) c in_it in
     let may : (q : Path) → is_listed q (changed_paths (lists_of cs)) ≡ true → IsChangeable r q =
@@ -303,19 +341,20 @@ known_valid r cs h =
         second_order = upward (second_drop_dirs cs) second.1;
         dirs_order = downward (dirs_in cs) last.1;
         target_not_wiped =
-            λ c in_it is. no _ (of_all (λ path. not (list_any (is_under path) (wipes_in cs))) (targets_in cs) c2.0 c.target (at c in_it)) is;
+            λ c in_it is. no _ (of_all (λ path. not (list_any (is_under path) (wipes_in cs))) (targets_in cs) undropped.0 c.target
+            (at c in_it)) is;
         target_not_dropped =
-            λ c in_it is. no _ (of_all (λ path. not (is_among_paths (drops_in cs) path)) (targets_in cs) c2.1 c.target (at c in_it)) is;
+            λ c in_it is. no _ (of_all (λ path. not (is_among_paths (drops_in cs) path)) (targets_in cs) undropped.1 c.target (at c in_it)) is;
         target_not_second =
             λ c in_it is. no _
-            (of_all (λ path. not (is_among_paths (second_drop_dirs cs) path)) (targets_in cs) c3.1 c.target (at c in_it)) is;
-        different = different r (puts_in cs) (ap all_differ (sym (targets_are cs)) ∙ c4.1) (ap all_differ (sym (staged_are r cs)) ∙ c5.1);
-        dir_not_wiped = λ q listed is. no _ (of_all (λ path. not (list_any (is_under path) (wipes_in cs))) (dirs_in cs) c6.1 q listed) is;
+            (of_all (λ path. not (is_among_paths (second_drop_dirs cs) path)) (targets_in cs) unlisted.1 c.target (at c in_it)) is;
+        different = different r (puts_in cs) (ap all_differ (sym (targets_are cs)) ∙ targets.1) (ap all_differ (sym (staged_are r cs)) ∙ staged.1);
+        dir_not_wiped = λ q listed is. no _ (of_all (λ path. not (list_any (is_under path) (wipes_in cs))) (dirs_in cs) apart.0 q listed) is;
         second_not_below = λ q x listed below later.
-            no _ (of_all (λ path. not (list_any (is_below path) (first_drop_dirs cs))) (second_drop_dirs cs) c7.1 x later)
+            no _ (of_all (λ path. not (list_any (is_below path) (first_drop_dirs cs))) (second_drop_dirs cs) apart.1 x later)
             (below_some (first_drop_dirs cs) q x listed below);
         build_wiped =
-            λ m v keyed either. scratch_wiped r cs c8.1 m v keyed
+            λ m v keyed either. scratch_wiped r cs scratch.1 m v keyed
             (elim either [ inl listed ↦ in_first cs _ listed | inr listed ↦ in_second cs _ listed ]);
         below_root = λ q listed. above_one (written_roots r) q (may q listed).below;
         not_inside = λ q listed is.

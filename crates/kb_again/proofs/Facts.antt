@@ -2,7 +2,7 @@
 use Rattle.std.specs.Prelude.{◌≡◌, ◌⊎◌, ℕ, Bool, true, not, ◌&&◌, ◌||◌, List, [], ◌∷◌, ◌++◌, map, codes, Option, Some, None, filter_map}
 use Rattle.std.specs.List.{list_any}
 use Rattle.kb_world.specs.Path.{Path, child}
-use Rattle.kb_world.specs.Public.{intent_path, staging_path, is_private}
+use Rattle.kb_world.specs.Public.{intent_path, is_private}
 use Rattle.kb_world.specs.Roots.{based_roots}
 use Rattle.kb_world.specs.StorePath.{key_of, is_key}
 use Rattle.kb_world.specs.View.{index_names}
@@ -15,6 +15,7 @@ use Rattle.kb_changes.specs.Valid.{written_roots, new_intent_path, is_initrd}
 use Rattle.kb_changes.specs.declared.change.Change.{Change}
 use Rattle.kb_changes.specs.declared.change.Change.TheVariants as change
 use Rattle.kb_changes.specs.declared.change.RootName.{RootName}
+use Rattle.kb_again.specs.Within.{staging_paths}
 use Rattle.kb_again.proofs.PathLaws.{is_over, is_above, is_listed}
 use Rattle.kb_again.proofs.Ends.{Move, is_under_one, IsMember, IsUpward, IsDownward}
 use Rattle.kb_again.proofs.Parts.{Groups}
@@ -89,9 +90,6 @@ pub record AreRoots (r : Roots) : Type 0 where
   pub disjoint : AreDisjoint (all_roots r)
   pub below : (q : Path) → is_listed q (based_roots r) ≡ true → is_above r.base q ≡ true
 
-abbrev pub staging_paths : Roots → List Path
-staging_paths r = staging_path r.dkms ∷ staging_path r.src ∷ staging_path r.modules ∷ staging_path r.boot ∷ []
-
 -- paths at and below which no change is made
 abbrev pub untouched : Roots → List Path
 untouched r = intent_path r ∷ new_intent_path r ∷ staging_paths r
@@ -104,8 +102,8 @@ abbrev pub is_open : Roots → Path → Bool
 is_open r q = not (is_private r q)
 
 -- at or below a root that is written, and neither private nor an initrd's
-abbrev pub is_steady : Roots → Path → Bool
-is_steady r q = is_under_one (written_roots r) q && (is_open r q && not (is_initrd r q))
+abbrev pub is_kept : Roots → Path → Bool
+is_kept r q = is_under_one (written_roots r) q && (is_open r q && not (is_initrd r q))
 
 -- an initrd's, or above a root that is written
 abbrev pub is_beside : Roots → Path → Bool

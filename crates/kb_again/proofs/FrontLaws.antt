@@ -8,7 +8,7 @@ use Rattle.std.proofs.lemmas.Bool.{true≢false}
 use Rattle.kb_again.proofs.Standing.{Between}
 use Rattle.kb_again.proofs.PathLaws.{is_listed}
 use Rattle.kb_again.proofs.Ends.{Move, drop_at, wipe_at, drop_dir_at, make_dir_at, move_at, in_turn, IsMember, IsUpward, IsDownward}
-use Rattle.kb_again.proofs.Parts.{Groups, dropped_tree, wiped_tree, cleared_tree, made_tree, put_tree, done, IsValid, IsPart, in_drops, in_wipes, in_first, in_dirs, in_puts, in_second}
+use Rattle.kb_again.proofs.Parts.{Groups, dropped_tree, wiped_tree, cleared_tree, made_tree, put_tree, groups_done, IsValid, IsPart, in_drops, in_wipes, in_first, in_dirs, in_puts, in_second}
 use Rattle.kb_again.proofs.Flat.{Act, to_drop, to_wipe, to_drop_dir, to_make, do_act, do_acts, put_of, acts_of}
 use Rattle.kb_again.proofs.GroupLaws.{dropped, wiped, cleared, made}
 use Rattle.kb_again.proofs.AgainLaws.{none_dir}
@@ -119,7 +119,7 @@ group_then : {A : Type 0} (h : A → Act) (f : A → Tree → Tree) (same : (x :
 group_then h f same ps later t = in_turn-append do_act (map h ps) later t ∙ ap (do_acts later) (in_turn-map h f same ps t)
 
 -- in all, the changes are the groups one after another
-pub all_done : (g : Groups) (t : Tree) → do_acts (acts_of g) t ≡ done g t
+pub all_done : (g : Groups) (t : Tree) → do_acts (acts_of g) t ≡ groups_done g t
 all_done g t =
     let l5 = map to_drop_dir g.second in
     let l4 = map put_of g.puts ++ l5 in
@@ -163,7 +163,8 @@ front_is_part g front back t valid e = elim (split_front front back (map to_drop
       let b =
       subst (λ ps. Between (node_at t) (node_at (in_turn drop_at ps t)) (node_at (in_turn drop_at w.taken t))) w.whole
       (drops_between w.taken w.left t) in
-      in_drops (subst (λ u. Between (node_at t) (node_at (dropped_tree g t)) (node_at u)) (sym (after_front to_drop drop_at (λ p u. refl) front g.drops w t)) b)
+      in_drops (subst (λ u. Between (node_at t) (node_at (dropped_tree g t)) (node_at u))
+      (sym (after_front to_drop drop_at (λ p u. refl) front g.drops w t)) b)
   | inr l1 ↦
       let s1 = whole_then to_drop drop_at (λ p u. refl) front l1.0 g.drops l1.1 t in
       let t1 = dropped_tree g t in
@@ -173,7 +174,8 @@ front_is_part g front back t valid e = elim (split_front front back (map to_drop
             let b =
             subst (λ ps. Between (node_at t1) (node_at (in_turn wipe_at ps t1)) (node_at (in_turn wipe_at w.taken t1))) w.whole
             (wipes_between w.taken w.left t1) in
-            in_wipes (subst (λ u. Between (node_at t1) (node_at (wiped_tree g t)) (node_at u)) (sym (s1 ∙ after_front to_wipe wipe_at (λ p u. refl) l1.0 g.wipes w t1)) b)
+            in_wipes (subst (λ u. Between (node_at t1) (node_at (wiped_tree g t)) (node_at u))
+            (sym (s1 ∙ after_front to_wipe wipe_at (λ p u. refl) l1.0 g.wipes w t1)) b)
         | inr l2 ↦
             let s2 = s1 ∙ whole_then to_wipe wipe_at (λ p u. refl) l1.0 l2.0 g.wipes l2.1 t1 in
             let t2 = wiped_tree g t in
@@ -181,8 +183,11 @@ front_is_part g front back t valid e = elim (split_front front back (map to_drop
               | inl more ↦
                   let w = map_front to_drop_dir l2.0 more.0 g.first more.1 in
                   let b =
-                  subst (λ ps. Between (node_at t2) (node_at (in_turn drop_dir_at ps t2)) (node_at (in_turn drop_dir_at w.taken t2))) w.whole (clears_between w.taken w.left t2 (subst IsUpward (sym w.whole) valid.first_order)) in
-                  in_first (subst (λ u. Between (node_at t2) (node_at (cleared_tree g t)) (node_at u)) (sym (s2 ∙ after_front to_drop_dir drop_dir_at (λ p u. refl) l2.0 g.first w t2)) b)
+                  subst (λ ps. Between (node_at t2) (node_at (in_turn drop_dir_at ps t2))
+                  (node_at (in_turn drop_dir_at w.taken t2))) w.whole (clears_between w.taken w.left t2
+                  (subst IsUpward (sym w.whole) valid.first_order)) in
+                  in_first (subst (λ u. Between (node_at t2) (node_at (cleared_tree g t)) (node_at u))
+                  (sym (s2 ∙ after_front to_drop_dir drop_dir_at (λ p u. refl) l2.0 g.first w t2)) b)
               | inr l3 ↦
                   let s3 = s2 ∙ whole_then to_drop_dir drop_dir_at (λ p u. refl) l2.0 l3.0 g.first l3.1 t2 in
                   let t3 = cleared_tree g t in
@@ -190,8 +195,12 @@ front_is_part g front back t valid e = elim (split_front front back (map to_drop
                     | inl more ↦
                         let w = map_front to_make l3.0 more.0 g.dirs more.1 in
                         let b =
-                        subst (λ ps. Between (node_at t3) (node_at (in_turn make_dir_at ps t3)) (node_at (in_turn make_dir_at w.taken t3))) w.whole (makes_between w.taken w.left t3 (subst IsDownward (sym w.whole) valid.dirs_order) (out_of_left w.taken w.left g.dirs w.whole valid.dirs_root) (out_of_right w.taken w.left g.dirs w.whole valid.dirs_root)) in
-                        in_dirs (subst (λ u. Between (node_at t3) (node_at (made_tree g t)) (node_at u)) (sym (s3 ∙ after_front to_make make_dir_at (λ p u. refl) l3.0 g.dirs w t3)) b)
+                        subst (λ ps. Between (node_at t3) (node_at (in_turn make_dir_at ps t3))
+                        (node_at (in_turn make_dir_at w.taken t3))) w.whole (makes_between w.taken w.left t3
+                        (subst IsDownward (sym w.whole) valid.dirs_order) (out_of_left w.taken w.left g.dirs w.whole valid.dirs_root)
+                        (out_of_right w.taken w.left g.dirs w.whole valid.dirs_root)) in
+                        in_dirs (subst (λ u. Between (node_at t3) (node_at (made_tree g t)) (node_at u))
+                        (sym (s3 ∙ after_front to_make make_dir_at (λ p u. refl) l3.0 g.dirs w t3)) b)
                     | inr l4 ↦
                         let s4 = s3 ∙ whole_then to_make make_dir_at (λ p u. refl) l3.0 l4.0 g.dirs l4.1 t3 in
                         let t4 = made_tree g t in
@@ -205,8 +214,11 @@ front_is_part g front back t valid e = elim (split_front front back (map to_drop
                               let t5 = put_tree g t in
                               let w = map_front to_drop_dir l5.0 back g.second l5.2 in
                               let b =
-                              subst (λ ps. Between (node_at t5) (node_at (in_turn drop_dir_at ps t5)) (node_at (in_turn drop_dir_at w.taken t5))) w.whole (clears_between w.taken w.left t5 (subst IsUpward (sym w.whole) valid.second_order)) in
-                              in_second (subst (λ u. Between (node_at t5) (node_at (done g t)) (node_at u)) (sym (s5 ∙ after_front to_drop_dir drop_dir_at (λ p u. refl) l5.0 g.second w t5)) b)
+                              subst (λ ps. Between (node_at t5) (node_at (in_turn drop_dir_at ps t5))
+                              (node_at (in_turn drop_dir_at w.taken t5))) w.whole (clears_between w.taken w.left t5
+                              (subst IsUpward (sym w.whole) valid.second_order)) in
+                              in_second (subst (λ u. Between (node_at t5) (node_at (groups_done g t)) (node_at u))
+                              (sym (s5 ∙ after_front to_drop_dir drop_dir_at (λ p u. refl) l5.0 g.second w t5)) b)
                         ]
                   ]
             ]

@@ -24,7 +24,12 @@ drop_each p t q = elim (cases_Bool (is_leaf (node_at t p))) [
       let is : drop_at p t ≡ without p t = ap (λ b. cond b (without p t) t) file in
       elim (same_or_not q p) [
         | inl same ↦
-            inr (same, ap (λ x. is_leaf (node_at t x)) same ∙ file, ap (λ u. node_at u q) is ∙ ap (node_at (without p t)) same ∙ remove-here t p)
+            inr (
+              same,
+              ap (λ x. is_leaf (node_at t x)) same ∙ file,
+              ap (λ u. node_at u q) is ∙ ap (node_at (without p t)) same
+                  ∙ remove-here t p,
+            )
         | inr other ↦ inl (ap (λ u. node_at u q) is ∙ remove-apart t p q other)
       ]
 ]
@@ -103,12 +108,22 @@ pub record LosesNone (p : Path) (t u : Tree) : Type 0 where
 pub drop_dir_cases : (p : Path) (t : Tree) → LosesDir p t (drop_dir_at p t) ⊎ LosesNone p t (drop_dir_at p t)
 drop_dir_cases p t = elim (cases_Bool (is_dir (node_at t p))) [
   | inr not_one ↦
-      inr (record { same = ap (λ b. cond (b && not (list_any (is_above p) (keys t))) (without p t) t) not_one; filled = λ is. absurd (true≢false (sym (dir_test _ is) ∙ not_one)) })
+      inr (record {
+        same = ap (λ b. cond (b && not (list_any (is_above p) (keys t))) (without p t) t) not_one;
+        filled = λ is. absurd
+            (true≢false (sym (dir_test _ is) ∙ not_one));
+      })
   | inl one ↦ elim (empty_or_filled t p) [
     | inr f ↦ inr (record { same = (λ i. cond (one i && not (f.0 i)) (without p t) t); filled = λ is. f.1 })
     | inl e ↦
         let is : drop_dir_at p t ≡ without p t = λ i. cond (one i && not (e.0 i)) (without p t) t in
-        inl (record { was = dir_is _ one; gone = ap (λ u. node_at u p) is ∙ remove-here t p; others = λ q other. ap (λ u. node_at u q) is ∙ remove-apart t p q other; empty = e.1 })
+        inl (record {
+          was = dir_is _ one;
+          gone = ap (λ u. node_at u p) is ∙ remove-here t p;
+          others = λ q other. ap (λ u. node_at u q) is
+              ∙ remove-apart t p q other;
+          empty = e.1;
+        })
   ]
 ]
 
@@ -150,7 +165,13 @@ cleared (p ∷ ps) t up =
           | inr other ↦ elim (rest.each q) [
             | inl kept ↦ inl (kept ∙ takes.others q other)
             | inr goes ↦
-                inr (record { was = sym (takes.others q other) ∙ goes.was; gone = goes.gone; listed = listed_more q p ps goes.listed; bare = goes.bare })
+                inr (record {
+                  was = sym (takes.others q other)
+                      ∙ goes.was;
+                  gone = goes.gone;
+                  listed = listed_more q p ps goes.listed;
+                  bare = goes.bare;
+                })
           ]
         ];
         full = λ q h is. elim (listed_cons q p ps h) [
@@ -177,7 +198,13 @@ cleared (p ∷ ps) t up =
             each = λ q. elim (rest.each q) [
               | inl kept ↦ inl (kept ∙ same_at q)
               | inr goes ↦
-                  inr (record { was = sym (same_at q) ∙ goes.was; gone = goes.gone; listed = listed_more q p ps goes.listed; bare = goes.bare })
+                  inr (record {
+                    was = sym (same_at q)
+                        ∙ goes.was;
+                    gone = goes.gone;
+                    listed = listed_more q p ps goes.listed;
+                    bare = goes.bare;
+                  })
             ];
             full = λ q h is. elim (listed_cons q p ps h) [
               | inl same ↦
@@ -194,7 +221,11 @@ cleared (p ∷ ps) t up =
                         stands = λ none. w.solid.stands (same_at w.path ∙ none);
                         stays =
                             λ dir in_it. elim
-                            (listed_cons w.path p ps in_it) [ inl same ↦ other same | inr more ↦ w.solid.stays (same_at w.path ∙ dir) more ];
+                            (listed_cons w.path p ps in_it) [
+                              | inl same ↦ other same
+                              | inr more ↦ w.solid.stays
+                                  (same_at w.path ∙ dir) more
+                            ];
                       };
                     }
                     | inl same ↦ elim (cases_Bool (is_dir (node_at t p))) [
@@ -231,13 +262,28 @@ none_there (Some n) h = absurd (true≢false h)
 pub make_dir_cases : (p : Path) (t : Tree) → GainsDir p t (make_dir_at p t) ⊎ GainsNone p t (make_dir_at p t)
 make_dir_cases p t = elim (cases_Bool (is_some (node_at t p))) [
   | inl there ↦
-      inr (record { same = ap (λ b. cond (not b && is_dir (node_at t (parent p))) (with_node p node.Dir t) t) there; cause = λ dir none. some_stands _ there none })
+      inr (record {
+        same = ap
+            (λ b. cond (not b && is_dir (node_at t (parent p)))
+            (with_node p node.Dir t) t) there;
+        cause = λ dir none. some_stands _ there none;
+      })
   | inr absent ↦ elim (cases_Bool (is_dir (node_at t (parent p)))) [
     | inr not_dir ↦
-        inr (record { same = λ i. cond (not (absent i) && not_dir i) (with_node p node.Dir t) t; cause = λ dir none. true≢false (sym (dir_test _ dir) ∙ not_dir) })
+        inr (record {
+          same = λ i. cond (not (absent i) && not_dir i) (with_node p node.Dir t) t;
+          cause = λ dir none. true≢false
+              (sym (dir_test _ dir) ∙ not_dir);
+        })
     | inl dir ↦
         let is : make_dir_at p t ≡ with_node p node.Dir t = λ i. cond (not (absent i) && dir i) (with_node p node.Dir t) t in
-        inl (record { was = none_there _ absent; above = dir_is _ dir; here = ap (λ u. node_at u p) is ∙ with_node-here t p node.Dir; others = λ q other. ap (λ u. node_at u q) is ∙ with_node-apart t p node.Dir q other })
+        inl (record {
+          was = none_there _ absent;
+          above = dir_is _ dir;
+          here = ap (λ u. node_at u p) is
+              ∙ with_node-here t p node.Dir;
+          others = λ q other. ap (λ u. node_at u q) is ∙ with_node-apart t p node.Dir q other;
+        })
   ]
 ]
 
@@ -257,11 +303,25 @@ made (p ∷ ps) t down out =
       | inl adds ↦ record {
         each = λ q. elim (same_or_not q p) [
           | inl same ↦
-              inr (record { was = ap (node_at t) same ∙ adds.was; made = stays_dir q (ap (node_at u) same ∙ adds.here); listed = listed_first q p ps same; above = stays_dir (parent q) (ap (λ x. node_at u (parent x)) same ∙ adds.others (parent p) (λ is_p. none_dir adds.was (ap (node_at t) (sym is_p) ∙ adds.above)) ∙ adds.above) })
+              inr (record {
+                was = ap (node_at t) same
+                    ∙ adds.was;
+                made = stays_dir q (ap (node_at u) same ∙ adds.here);
+                listed = listed_first q p ps same;
+                above = stays_dir
+                    (parent q) (ap (λ x. node_at u (parent x)) same
+                    ∙ adds.others (parent p) (λ is_p. none_dir adds.was (ap (node_at t) (sym is_p) ∙ adds.above)) ∙ adds.above);
+              })
           | inr other ↦ elim (rest.each q) [
             | inl kept ↦ inl (kept ∙ adds.others q other)
             | inr makes ↦
-                inr (record { was = sym (adds.others q other) ∙ makes.was; made = makes.made; listed = listed_more q p ps makes.listed; above = makes.above })
+                inr (record {
+                  was = sym (adds.others q other)
+                      ∙ makes.was;
+                  made = makes.made;
+                  listed = listed_more q p ps makes.listed;
+                  above = makes.above;
+                })
           ]
         ];
         full = λ q h dir none. elim (listed_cons q p ps h) [
@@ -275,7 +335,13 @@ made (p ∷ ps) t down out =
             each = λ q. elim (rest.each q) [
               | inl kept ↦ inl (kept ∙ same_at q)
               | inr makes ↦
-                  inr (record { was = sym (same_at q) ∙ makes.was; made = makes.made; listed = listed_more q p ps makes.listed; above = makes.above })
+                  inr (record {
+                    was = sym (same_at q)
+                        ∙ makes.was;
+                    made = makes.made;
+                    listed = listed_more q p ps makes.listed;
+                    above = makes.above;
+                  })
             ];
             full = λ q h dir none. elim (listed_cons q p ps h) [
               | inr later ↦ rest.full q later dir none

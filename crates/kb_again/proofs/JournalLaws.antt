@@ -15,7 +15,8 @@ use Rattle.kb_changes.specs.Valid.{new_intent_path}
 use Rattle.kb_changes.specs.declared.change.RootName.TheVariants as root_name
 use Rattle.kb_again.specs.Sparing.{reaches}
 use Rattle.kb_again.proofs.Ends.{in_turn, IsMember}
-use Rattle.kb_again.proofs.Facts.{all_roots, untouched, staging_paths, staged_at, StagedPut, Lists, targets, groups_of, changed_paths, AreRoots, IsValidUnder}
+use Rattle.kb_again.specs.Within.{staging_paths}
+use Rattle.kb_again.proofs.Facts.{all_roots, untouched, staged_at, StagedPut, Lists, targets, groups_of, changed_paths, AreRoots, IsValidUnder}
 use Rattle.kb_again.proofs.Flat.{Act, to_drop, to_wipe, to_drop_dir, to_make, to_put, do_act, put_of, acts_of}
 use Rattle.kb_again.proofs.FrontLaws.{listed_left, listed_right}
 use Rattle.kb_again.proofs.GroupLaws.{drop_each, drop_dir_cases, make_dir_cases, wiped}
@@ -59,7 +60,8 @@ effects_miss j a miss [] t = refl
 effects_miss j a miss (e ∷ es) t = effects_miss j a miss es (effect_in a e t) ∙ elim (cases_Bool (reaches a e.0)) [
   | inl is ↦ effect_other a e t j (miss e.0 is)
   | inr out ↦
-      ap (λ b. node_at (cond ((b && not (is_dir e.1)) && (not (is_dir (node_at t e.0)) && is_dir (node_at t (parent e.0)))) (edited e.0 e.1 t) t) j) out
+      ap (λ b. node_at (cond ((b && not (is_dir e.1)) && (not (is_dir (node_at t e.0)) && is_dir (node_at t (parent e.0))))
+      (edited e.0 e.1 t) t) j) out
 ]
 
 step_misses : (j : Path) (f : Script) (r : Roots) (x : Step) (t : Tree) → Misses j x → node_at (do_step f r x t) j ≡ node_at t j
@@ -101,7 +103,8 @@ module _ (r : Roots) (s : Lists) (roots : AreRoots r) (valid : IsValidUnder r s)
       elim (over_cases q (intent_path r) under) [
         | inl same ↦
             valid.not_inside q changed
-            (inside (untouched r) (intent_path r) q (at_0 (intent_path r) (new_intent_path r ∷ staging_paths r)) (subst (λ x. is_over (intent_path r) x ≡ true) (sym same) (over_itself (intent_path r))))
+            (inside (untouched r) (intent_path r) q (at_0 (intent_path r) (new_intent_path r ∷ staging_paths r))
+            (subst (λ x. is_over (intent_path r) x ≡ true) (sym same) (over_itself (intent_path r))))
         | inr above ↦
             not_at_root r roots q r.dkms (below_root r s roots valid q changed) (is_root r root_name.Dkms)
             (above_child q r.dkms (codes ".intent") above)
@@ -126,7 +129,9 @@ module _ (r : Roots) (s : Lists) (roots : AreRoots r) (valid : IsValidUnder r s)
       let below : is_above (root_path r c.root) r.dkms ≡ true =
       above_over_above (root_path r c.root) (staging_path (root_path r c.root)) r.dkms
       (child_above (root_path r c.root) (codes ".kb-staged"))
-      (above_child (staging_path (root_path r c.root)) r.dkms (codes ".intent") (subst (λ x. is_above (staging_path (root_path r c.root)) x ≡ true) (sym same) (child_above (staging_path (root_path r c.root)) (decimal c.number)))) in
+      (above_child (staging_path (root_path r c.root)) r.dkms (codes ".intent")
+      (subst (λ x. is_above (staging_path (root_path r c.root)) x ≡ true) (sym same)
+      (child_above (staging_path (root_path r c.root)) (decimal c.number)))) in
       disjoint_below (all_roots r) roots.disjoint (root_path r c.root) r.dkms (is_root r c.root) (is_root r root_name.Dkms) below
 
   all_miss : AllByRecursion (Misses (intent_path r)) (steps_of r s)
@@ -143,7 +148,11 @@ module _ (r : Roots) (s : Lists) (roots : AreRoots r) (valid : IsValidUnder r s)
       all_map (MissesBy j) to_drop_dir s.second (λ p h. not_same p (in_second_changed r s roots valid p (listed p s.second h))) in
       let a4 : AllByRecursion (MissesBy j) l4 =
       all_append (MissesBy j) (map put_of g.puts) l5
-      (all_map (MissesBy j) put_of g.puts (λ m h. let w = move_from r s roots valid s.puts m h in ((λ e. not_its_staged w.0 (e ∙ ap (λ k. k.0) w.2)), (λ e. not_same w.0.target (target_changed r s roots valid w.0 w.1) (e ∙ ap (λ k. k.1) w.2))))) a5 in
+      (all_map (MissesBy j) put_of g.puts
+      (λ m h. let w = move_from r s roots valid s.puts m h in (
+        (λ e. not_its_staged w.0 (e ∙ ap (λ k. k.0) w.2)),
+        (λ e. not_same w.0.target (target_changed r s roots valid w.0 w.1) (e ∙ ap (λ k. k.1) w.2)),
+      ))) a5 in
       let a3 : AllByRecursion (MissesBy j) l3 =
       all_append (MissesBy j) (map to_make s.dirs) l4
       (all_map (MissesBy j) to_make s.dirs (λ p h. not_same p (in_dirs_changed r s roots valid p (listed p s.dirs h)))) a4 in

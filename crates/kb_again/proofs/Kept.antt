@@ -4,7 +4,7 @@ use Rattle.kb_world.specs.Tree.{node_at, Tree, is_dir}
 use Rattle.kb_again.proofs.PathLaws.{is_above, is_listed}
 use Rattle.kb_world.specs.Path.{parent, Path}
 use Rattle.kb_again.proofs.Ends.{Move, can_move, is_under_one, IsMember}
-use Rattle.kb_again.proofs.Parts.{Groups, made_tree, done, IsValid, IsPart}
+use Rattle.kb_again.proofs.Parts.{Groups, made_tree, groups_done, IsValid, IsPart}
 use Rattle.kb_world.specs.declared.tree.Node.TheVariants as node
 
 -- the same at each kept path
@@ -44,18 +44,20 @@ IsSoftlyOn p ps t u =
 abbrev pub KeptSame : Type 0
 KeptSame =
     (p b : Path → Bool) (g : Groups)
-    (t u : Tree) → IsValid g → IsHidden p b g → IsWhole t → IsWhole u → IsSoftlyOn p g.drops t u → SameDirs b t u → HasStaged p g t u → SameOn p (done g t) (done g u) × SameDirs b (done g t) (done g u)
+    (t u : Tree) → IsValid g → IsHidden p b g → IsWhole t → IsWhole u → IsSoftlyOn p g.drops t u → SameDirs b t u → HasStaged p g t u
+    → SameOn p (groups_done g t) (groups_done g u) × SameDirs b (groups_done g t) (groups_done g u)
 
 -- from a tree in which a part is done, with anything at paths that are neither kept nor staged
 abbrev pub KeptAgain : Type 0
 KeptAgain =
     (p b : Path → Bool) (g : Groups)
-    (t v u : Tree) → IsValid g → IsHidden p b g → IsPart g t v → IsWhole v → IsWhole u → IsSoftlyOn p g.drops v u → SameDirs b v u → HasStaged p g v u → SameOn p (done g t) (done g u) × SameDirs b (done g t) (done g u)
+    (t v u : Tree) → IsValid g → IsHidden p b g → IsPart g t v → IsWhole v → IsWhole u → IsSoftlyOn p g.drops v u → SameDirs b v u
+    → HasStaged p g v u → SameOn p (groups_done g t) (groups_done g u) × SameDirs b (groups_done g t) (groups_done g u)
 
 -- after all changes any staged files may be gone
 abbrev pub KeptAfter : Type 0
 KeptAfter =
     (p b : Path → Bool) (g : Groups) (t u : Tree) → IsValid g → IsHidden p b g → IsWhole t → IsWhole u → IsSoftlyOn p g.drops
-    (done g t) u → SameDirs b (done g t) u →
-    ((m : Move) → IsMember m g.puts → (node_at u m.0 ≡ node_at (done g t) m.0) ⊎ (node_at u m.0 ≡ None)) → SameOn p (done g t)
-    (done g u) × SameDirs b (done g t) (done g u)
+    (groups_done g t) u → SameDirs b (groups_done g t) u →
+    ((m : Move) → IsMember m g.puts → (node_at u m.0 ≡ node_at (groups_done g t) m.0) ⊎ (node_at u m.0 ≡ None)) → SameOn p (groups_done g t)
+    (groups_done g u) × SameDirs b (groups_done g t) (groups_done g u)

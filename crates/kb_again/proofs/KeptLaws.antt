@@ -7,7 +7,7 @@ use Rattle.kb_again.proofs.PathLaws.{none_above_root, above_up, is_over, is_abov
 use Rattle.kb_world.specs.declared.tree.Node.{Node}
 use Rattle.kb_world.specs.Path.{parent, Path}
 use Rattle.kb_again.proofs.Ends.{Move, can_move, drop_at, wipe_at, drop_dir_at, make_dir_at, move_at, in_turn, is_under_one, IsMember, MovesApart}
-use Rattle.kb_again.proofs.Parts.{Groups, dropped_tree, wiped_tree, cleared_tree, made_tree, put_tree, done, IsValid, IsPart, in_second}
+use Rattle.kb_again.proofs.Parts.{Groups, dropped_tree, wiped_tree, cleared_tree, made_tree, put_tree, groups_done, IsValid, IsPart, in_second}
 use Rattle.kb_again.proofs.Kept.{SameOn, SameDirs, IsWhole, IsHidden, HasStaged, KeptSame, KeptAgain, KeptAfter}
 use Rattle.kb_again.proofs.EditLaws.{dir_is, dir_test, stands_some, some_stands, same_or_not, Empty, Filled}
 use Rattle.kb_again.proofs.GroupLaws.{dropped, wiped, drop_dir_cases, make_dir_cases}
@@ -55,7 +55,10 @@ pub wipes_whole : (ps : List Path) (t : Tree) → IsWhole t → IsWhole (in_turn
 wipes_whole ps t whole q stands =
     let w = wiped ps t in
     let dir = whole q (elim (w.each q) [ inl same ↦ ap is_some (sym same) ∙ stands | inr gone ↦ absurd (some_stands _ stands gone.1) ]) in
-    elim (w.each (parent q)) [ inl same ↦ same ∙ dir | inr gone ↦ absurd (some_stands _ stands (w.gone q (one_above ps (parent q) q (parent_under q) gone.0))) ]
+    elim (w.each (parent q)) [
+      | inl same ↦ same ∙ dir
+      | inr gone ↦ absurd (some_stands _ stands (w.gone q (one_above ps (parent q) q (parent_under q) gone.0)))
+    ]
 
 pub drop_dir_whole : (p : Path) (t : Tree) → IsWhole t → IsWhole (drop_dir_at p t)
 drop_dir_whole p t whole q stands = elim (drop_dir_cases p t) [
@@ -83,7 +86,10 @@ make_dir_whole p t whole q stands = elim (make_dir_cases p t) [
         ∙ adds.others (parent p) (λ is_p. none_dir adds.was (ap (node_at t) (sym is_p) ∙ adds.above)) ∙ adds.above
     | inr other ↦
         let dir = whole q (ap is_some (sym (adds.others q other)) ∙ stands) in
-        elim (same_or_not (parent q) p) [ inl up ↦ ap (node_at (make_dir_at p t)) up ∙ adds.here | inr other_up ↦ adds.others (parent q) other_up ∙ dir ]
+        elim (same_or_not (parent q) p) [
+          | inl up ↦ ap (node_at (make_dir_at p t)) up ∙ adds.here
+          | inr other_up ↦ adds.others (parent q) other_up ∙ dir
+        ]
   ]
 ]
 
@@ -116,7 +122,7 @@ module _ (g : Groups) (t : Tree) (whole : IsWhole t) where
       turn_whole move_at move_whole g.puts _
       (turn_whole make_dir_at make_dir_whole g.dirs _ (turn_whole drop_dir_at drop_dir_whole g.first _ wiped_whole))
 
-  pub done_is_whole : IsWhole (done g t)
+  pub done_is_whole : IsWhole (groups_done g t)
   done_is_whole = turn_whole drop_dir_at drop_dir_whole g.second _ put_whole
 
 -- ---- at one path
@@ -128,9 +134,15 @@ drops_same ps t u q same =
     let e = dropped ps u in
     elim (d.each q) [
       | inl kept ↦
-          elim (e.each q) [ inl kept_too ↦ kept ∙ same ∙ sym kept_too | inr gone ↦ absurd (d.gone q gone.0 (ap is_leaf (kept ∙ same) ∙ gone.1)) ]
+          elim (e.each q) [
+            | inl kept_too ↦ kept ∙ same ∙ sym kept_too
+            | inr gone ↦ absurd (d.gone q gone.0 (ap is_leaf (kept ∙ same) ∙ gone.1))
+          ]
       | inr gone ↦
-          elim (e.each q) [ inl kept ↦ absurd (e.gone q gone.0 (ap is_leaf (kept ∙ sym same) ∙ gone.1)) | inr gone_too ↦ gone.2 ∙ sym gone_too.2 ]
+          elim (e.each q) [
+            | inl kept ↦ absurd (e.gone q gone.0 (ap is_leaf (kept ∙ sym same) ∙ gone.1))
+            | inr gone_too ↦ gone.2 ∙ sym gone_too.2
+          ]
     ]
 
 wipes_same : (ps : List Path) (t u : Tree) (q : Path) → node_at t q ≡ node_at u q
@@ -228,7 +240,10 @@ wipes_dirs b ps t u same q is =
     let e = wiped ps u in
     elim (d.each q) [
       | inl kept ↦
-          elim (e.each q) [ inl kept_too ↦ ap is_dir kept ∙ same q is ∙ sym (ap is_dir kept_too) | inr gone ↦ ap is_dir (d.gone q gone.0 ∙ sym gone.1) ]
+          elim (e.each q) [
+            | inl kept_too ↦ ap is_dir kept ∙ same q is ∙ sym (ap is_dir kept_too)
+            | inr gone ↦ ap is_dir (d.gone q gone.0 ∙ sym gone.1)
+          ]
       | inr gone ↦ ap is_dir (gone.1 ∙ sym (e.gone q gone.0))
     ]
 
@@ -270,7 +285,8 @@ module _ (p b : Path → Bool) (above : (q : Path) → p q ≡ true → (p (pare
       | inr lacks ↦ elim (same_or_not q x) [
         | inl here ↦
             let open_x : p x ≡ true = ap p (sym here) ∙ is in
-            absurd (lacks.cause (dir_is _ (sym (parent_dirs t u same dirs x open_x) ∙ dir_test _ adds.above)) (sym (same x open_x) ∙ adds.was))
+            absurd (lacks.cause (dir_is _ (sym (parent_dirs t u same dirs x open_x) ∙ dir_test _ adds.above))
+            (sym (same x open_x) ∙ adds.was))
         | inr other ↦ adds.others q other ∙ same q is ∙ sym (ap (λ v. node_at v q) lacks.same)
       ]
     ]
@@ -290,7 +306,10 @@ module _ (p b : Path → Bool) (above : (q : Path) → p q ≡ true → (p (pare
   makes_same [] t u spared same dirs = same
   makes_same (x ∷ xs) t u spared same dirs =
       makes_same xs (make_dir_at x t) (make_dir_at x u) (λ y h. spared y (listed_more y x xs h)) (make_dir_same x t u same dirs)
-      (turn_dirs make_dir_at make_dir_other b (x ∷ []) (λ y h. elim (listed_cons y x [] h) [ inl e ↦ spared y (listed_first y x xs e) | inr none ↦ absurd (true≢false (sym none)) ]) t u dirs)
+      (turn_dirs make_dir_at make_dir_other b (x ∷ []) (λ y h. elim (listed_cons y x [] h) [
+        | inl e ↦ spared y (listed_first y x xs e)
+        | inr none ↦ absurd (true≢false (sym none))
+      ]) t u dirs)
 
   -- staged files that are put in their places
   abbrev AreStaged : List Move → Tree → Tree → Type 0
@@ -352,7 +371,11 @@ module _ (p b : Path → Bool) (above : (q : Path) → p q ≡ true → (p (pare
       (λ n h is. elim (apart.two n m (inr h) (inl refl)) [
         | inl one ↦
             let own : n.0 ≡ n.1 → ⊥ = apart.own n (inr h) in
-            inr (ap (λ k. can_move (node_at (move_at k t)) n) (sym one) ∙ cant_after n t own, ap (λ k. can_move (node_at (move_at k u)) n) (sym one) ∙ cant_after n u own)
+            inr (
+              ap (λ k. can_move (node_at (move_at k t)) n) (sym one)
+                  ∙ cant_after n t own,
+              ap (λ k. can_move (node_at (move_at k u)) n) (sym one) ∙ cant_after n u own,
+            )
         | inr two ↦ elim (staged n (inr h) is) [
           | inl file ↦ inl ((kept_apart n m u two).0 ∙ file ∙ sym (kept_apart n m t two).0)
           | inr cant ↦ inr (can_apart n m t two ∙ cant.0, can_apart n m u two ∙ cant.1)
@@ -373,7 +396,7 @@ staged_kept g valid t m in_it = elim ((dirs_made g valid t).each m.0) [
 ]
 
 hard_same : (p b : Path → Bool) (g : Groups) (t u : Tree) → IsValid g → IsHidden p b g → IsWhole t → IsWhole u → SameOn p t u
-    → SameDirs b t u → HasStaged p g t u → SameOn p (done g t) (done g u) × SameDirs b (done g t) (done g u)
+    → SameDirs b t u → HasStaged p g t u → SameOn p (groups_done g t) (groups_done g u) × SameDirs b (groups_done g t) (groups_done g u)
 hard_same p b g t u valid hidden whole whole_u same dirs staged =
     let dirs_start : SameDirs b (wiped_tree g t) (wiped_tree g u) =
     wipes_dirs b g.wipes _ _ (λ q is. drops_dirs g.drops t q ∙ dirs q is ∙ sym (drops_dirs g.drops u q)) in
@@ -392,9 +415,19 @@ hard_same p b g t u valid hidden whole whole_u same dirs staged =
     moves_same p b hidden.above g.puts (made_tree g t) (made_tree g u) valid.apart hidden.staged (λ m h is. elim (staged m h is) [
       | inl file ↦ inl (staged_kept g valid u m h ∙ start_same g u t m.0 file ∙ sym (staged_kept g valid t m h))
       | inr none ↦
-          inr (none.1, let gone : node_at (made_tree g u) m.0 ≡ None = staged_kept g valid u m h ∙ start_none g u m.0 none.0 in (λ i. (is_leaf (gone i) && not (is_dir (node_at (made_tree g u) m.1))) && is_dir (node_at (made_tree g u) (parent m.1))))
-    ]) make dirs_make in
-    (clears_same p g.wipes g.second _ _ (put_whole g t whole) (put_whole g u whole_u) (put_tree_free g valid t).nothing (put_tree_free g valid u).nothing (λ x h r is below out. hidden.within x r (inr h) is below out) put, turn_dirs drop_dir_at drop_dir_other b g.second (λ x h. hidden.spared x (inl (inr h))) (put_tree g t) (put_tree g u) dirs_put)
+          inr (
+            none.1,
+            let gone : node_at (made_tree g u) m.0 ≡ None = staged_kept g valid u m h
+                ∙ start_none g u m.0 none.0 in
+                (λ i. (is_leaf (gone i) && not (is_dir (node_at (made_tree g u) m.1))) && is_dir (node_at (made_tree g u) (parent m.1))),
+          )
+    ]) make dirs_make in (
+      clears_same p g.wipes g.second _ _ (put_whole g t whole) (put_whole g u whole_u) (put_tree_free g valid t).nothing
+          (put_tree_free g valid u).nothing
+          (λ x h r is below out. hidden.within x r (inr h) is below out) put,
+      turn_dirs drop_dir_at drop_dir_other b g.second
+          (λ x h. hidden.spared x (inl (inr h))) (put_tree g t) (put_tree g u) dirs_put,
+    )
 
 abbrev made_from : Groups → Tree → Tree
 made_from g w = in_turn make_dir_at g.dirs (in_turn drop_dir_at g.first (in_turn wipe_at g.wipes w))
@@ -414,18 +447,28 @@ kept_same p b g t u valid hidden whole whole_u soft dirs staged =
       | inl kept ↦ drops_same g.drops t u x (sym kept)
       | inr changed ↦
           nothing_else _ (elim (d.each x) [ inl stays ↦ ap is_dir stays ∙ changed.1 | inr gone ↦ ap is_dir gone.2 ]) (d.gone x changed.0)
-          ∙ sym (nothing_else _ (elim (e.each x) [ inl stays ↦ ap is_dir stays ∙ changed.2 | inr gone ↦ ap is_dir gone.2 ]) (e.gone x changed.0))
+          ∙ sym (nothing_else _ (elim (e.each x) [
+            | inl stays ↦ ap is_dir stays ∙ changed.2
+            | inr gone ↦ ap is_dir gone.2
+          ]) (e.gone x changed.0))
     ] in
     let staged_too : HasStaged p g v w = λ m h open_m. elim (staged m h open_m) [
       | inl file ↦ inl (sym (drops_same g.drops t u m.0 (sym file)))
       | inr none ↦
-          inr (elim (e.each m.0) [ inl stays ↦ stays ∙ none.0 | inr gone ↦ gone.2 ], ap (λ x. can_move (node_at (made_from g x)) m) again ∙ none.1)
+          inr (
+            elim (e.each m.0) [
+              | inl stays ↦ stays ∙ none.0
+              | inr gone ↦ gone.2
+            ],
+            ap (λ x. can_move (node_at (made_from g x)) m) again ∙ none.1,
+          )
     ] in
     let all =
     hard_same p b g v w valid hidden (drops_whole g.drops t whole) (drops_whole g.drops u whole_u) same
     (λ q is. drops_dirs g.drops t q ∙ dirs q is ∙ sym (drops_dirs g.drops u q)) staged_too in (
       (λ q is. sym (ap (λ x. node_at (done_from g x) q) again) ∙ all.0 q is ∙ ap (λ x. node_at (done_from g x) q) again_u),
-      (λ q is. sym (ap (λ x. is_dir (node_at (done_from g x) q)) again) ∙ all.1 q is ∙ ap (λ x. is_dir (node_at (done_from g x) q)) again_u),
+      (λ q is. sym (ap (λ x. is_dir (node_at (done_from g x) q)) again) ∙ all.1 q is
+          ∙ ap (λ x. is_dir (node_at (done_from g x) q)) again_u),
     )
 
 pub kept_again : KeptAgain
@@ -435,7 +478,7 @@ kept_again p b g t v u valid hidden part whole whole_u same dirs staged =
     ((λ q is. ap (λ w. node_at w q) once ∙ all.0 q is), (λ q is. ap (λ w. is_dir (node_at w q)) once ∙ all.1 q is))
 
 -- In a tree that all changes leave as it is, no staged file can be put in its place.
-pub fixed_cant : (g : Groups) (valid : IsValid g) (v : Tree) → done g v ≡ v → (m : Move) → IsMember m g.puts
+pub fixed_cant : (g : Groups) (valid : IsValid g) (v : Tree) → groups_done g v ≡ v → (m : Move) → IsMember m g.puts
     → can_move (node_at (made_tree g v)) m ≡ false
 fixed_cant g valid v fixed m in_it = false_from_ne_true _ (λ can.
     let parts = and_parts _ _ can in
@@ -443,7 +486,8 @@ fixed_cant g valid v fixed m in_it = false_from_ne_true _ (λ can.
     let dirs = moved_dir g.puts (node_at (made_tree g v)) (node_at (put_tree g v)) (moved g.puts (made_tree g v)) in
     let no_file : is_leaf (node_at (put_tree g v) m.0) ≡ true → ⊥ =
     λ file. true≢false
-    (sym (and_from _ _ (and_from _ _ file (ap not (dirs m.1) ∙ inner.1)) (dirs (parent m.1) ∙ parts.1)) ∙ all_moved g.puts valid.apart m in_it (made_tree g v)) in
+    (sym (and_from _ _ (and_from _ _ file (ap not (dirs m.1) ∙ inner.1)) (dirs (parent m.1) ∙ parts.1))
+    ∙ all_moved g.puts valid.apart m in_it (made_tree g v)) in
     let was : is_leaf (node_at v m.0) ≡ true = elim (((wiped g.wipes (dropped_tree g v)).each m.0)) [
       | inr gone ↦ absurd (true≢false (sym inner.0 ∙ ap is_leaf (staged_kept g valid v m in_it ∙ gone.1)))
       | inl kept ↦ elim ((dropped g.drops v).each m.0) [
@@ -458,8 +502,8 @@ fixed_cant g valid v fixed m in_it = false_from_ne_true _ (λ can.
 
 pub kept_after : KeptAfter
 kept_after p b g t u valid hidden whole whole_u same dirs staged =
-    let part : IsPart g t (done g t) = in_second (λ q. inr refl) in
-    kept_again p b g t (done g t) u valid hidden part (done_is_whole g t whole) whole_u same dirs (λ m h is. elim (staged m h) [
+    let part : IsPart g t (groups_done g t) = in_second (λ q. inr refl) in
+    kept_again p b g t (groups_done g t) u valid hidden part (done_is_whole g t whole) whole_u same dirs (λ m h is. elim (staged m h) [
       | inl file ↦ inl file
-      | inr none ↦ inr (none, fixed_cant g valid (done g t) (done_once g t (done g t) valid part) m h)
+      | inr none ↦ inr (none, fixed_cant g valid (groups_done g t) (done_once g t (groups_done g t) valid part) m h)
     ])

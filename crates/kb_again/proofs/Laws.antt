@@ -1,5 +1,5 @@
 -- The laws: doing a valid intent's changes again is doing them once, and what soft areas may leave.
-use Rattle.std.proofs.Common.{◌≡◌, inl, inr, true, not, List, [], ◌++◌, map, take, sym, ap, ◌∙◌, subst}
+use Rattle.std.proofs.Common.{◌≡◌, ◌∷◌, refl, inl, inr, true, not, List, [], ◌++◌, map, take, sym, ap, ◌∙◌, subst}
 use Rattle.std.proofs.lemmas.Bool.{cases_Bool}
 use Rattle.kb_world.specs.Area.{IsLeft}
 use Rattle.kb_world.specs.Path.{Path}
@@ -15,7 +15,7 @@ use Rattle.kb_changes.specs.Valid.{is_valid}
 use Rattle.kb_changes.specs.declared.change.Change.{Change}
 use Rattle.kb_again.specs.Sparing.{IsSparing, AreSparing, areas_of, settled}
 use Rattle.kb_again.specs.Unseen.{is_shown, AreAlike, HaveStaged, AreDoneAlike}
-use Rattle.kb_again.specs.Within.{IsBetween, IsUnstaged, IsDoneAlike}
+use Rattle.kb_again.specs.Within.{IsBetween, IsUnstaged, IsDoneAlike, IsBetweenEach, last_image}
 use Rattle.kb_again.proofs.BetweenLaws.{IsCutNext, areas_in, EndsAlike, by_back, staging_keeps}
 use Rattle.kb_again.proofs.ChangeLaws.{whole_of, done_same, areas_same, mapped_parts, mapped_next, cut_there, steps_are, done_is, done_whole}
 use Rattle.kb_again.proofs.FactLaws.{known_valid, staged_are, mapped_member, untouched_is}
@@ -57,7 +57,17 @@ between_done_alike r f cs soft t u apart valid formed spares b =
     ∙ ap areas_in (mapped_parts (step_of r) b.front (take 1 b.back) ∙ ap (λ l. front ++ l) (mapped_next (step_of r) b.back)) in
     let left : IsLeftIn (areas_in (front ++ take 1 back) ++ soft) b.mid u = subst (λ l. IsLeftIn (l ++ soft) b.mid u) areas b.left.each in
     alike_from r f cs t u valid
-    (by_back f r s soft t u (are_roots r apart) (facts_of r cs valid) whole spares (whole_of u b.left.formed) front back b.mid split there.whole cut left)
+    (by_back f r s soft t u (are_roots r apart) (facts_of r cs valid) whole spares
+    (whole_of u b.left.formed) front back b.mid split there.whole cut left)
+
+pub each_done_alike : (r : Roots) (f : Script) (cs : List Change) (t : Tree) (images : List (List Area × Tree)) → AreApart r
+    → is_valid r cs ≡ true → IsFormed t
+    → IsBetweenEach r f cs t images → IsDoneAlike r f cs t (last_image t images)
+each_done_alike r f cs t [] apart valid formed each = record { public = refl; journal = refl }
+each_done_alike r f cs t (next ∷ images) apart valid formed each =
+    let first = between_done_alike r f cs next.0 t next.1 apart valid formed each.0 each.1 in
+    let later = each_done_alike r f cs next.1 images apart valid each.1.left.formed each.2 in
+    record { public = later.public ∙ first.public; journal = later.journal ∙ first.journal }
 
 pub unstaged_done_alike : (r : Roots) (f : Script) (cs : List Change) (soft : List Area) (t v u : Tree) → AreApart r → is_valid r cs ≡ true
     → IsFormed t → AreSparing r (areas_of cs) soft
@@ -99,7 +109,8 @@ unseen_done_alike r f cs t u apart valid formed formed_u alike staged =
     let all : AreSeenAlike f r s t u =
     seen_alike_all f r s t u (are_roots r apart) (facts_of r cs valid) (whole_of t formed) (whole_of u formed_u)
     (λ q is. alike.shown q (sym (plain_shown q) ∙ is)) (λ q is. alike.directories q)
-    (λ c in_it. sym (staged (staged_at r c) (ap (is_listed (staged_at r c)) (staged_are r cs) ∙ mapped_member (staged_at r) s.puts c in_it))) in
+    (λ c in_it. sym (staged (staged_at r c)
+    (ap (is_listed (staged_at r c)) (staged_are r cs) ∙ mapped_member (staged_at r) s.puts c in_it))) in
     let after : (v : Tree) → done r f cs v ≡ after_all f r s v = λ v. done_is r f cs v valid ∙ steps_all f r s s.runs v in
     let shown : (q : Path) → is_shown r q ≡ true → node_at (done r f cs t) q ≡ node_at (done r f cs u) q =
     λ q is. ap (λ v. node_at v q) (after t) ∙ all.same q (plain_shown q ∙ is) ∙ sym (ap (λ v. node_at v q) (after u)) in

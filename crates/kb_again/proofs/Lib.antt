@@ -32,3 +32,4 @@ mod ChangeLaws
 mod ReplyLaws
 mod Laws
 mod Witness
+mod AlikeLaws

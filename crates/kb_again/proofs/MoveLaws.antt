@@ -79,15 +79,25 @@ move_cases m t = elim (cases_Bool (can_move (node_at t) m)) [
 
 move_each : (m : Move) (t : Tree) (q : Path)
     → (node_at (move_at m t) q ≡ node_at t q) ⊎
-    ((is_dir (node_at t q) ≡ false) × (((m.0 ≡ q) × (node_at (move_at m t) q ≡ None)) ⊎ ((m.1 ≡ q) × (is_leaf (node_at (move_at m t) q) ≡ true))))
+    ((is_dir (node_at t q) ≡ false) ×
+    (((m.0 ≡ q) × (node_at (move_at m t) q ≡ None)) ⊎ ((m.1 ≡ q) × (is_leaf (node_at (move_at m t) q) ≡ true))))
 move_each m t q = elim (move_cases m t) [
   | inr stays ↦ inl (ap (λ u. node_at u q) stays.same)
   | inl moves ↦ elim (same_or_not q m.1) [
     | inl target ↦
-        inr (ap (λ x. is_dir (node_at t x)) target ∙ moves.no_dir, inr (sym target, ap (λ x. is_leaf (node_at (move_at m t) x)) target ∙ ap is_leaf moves.target ∙ moves.file))
+        inr (
+          ap (λ x. is_dir (node_at t x)) target
+              ∙ moves.no_dir,
+          inr (sym target, ap (λ x. is_leaf (node_at (move_at m t) x)) target ∙ ap is_leaf moves.target ∙ moves.file),
+        )
     | inr no_target ↦ elim (same_or_not q m.0) [
       | inl source ↦
-          inr (ap (λ x. is_dir (node_at t x)) source ∙ dir_no_file _ moves.file, inl (sym source, ap (node_at (move_at m t)) source ∙ moves.source (λ same. no_target (source ∙ same))))
+          inr (
+            ap (λ x. is_dir (node_at t x)) source
+                ∙ dir_no_file _ moves.file,
+            inl
+                (sym source, ap (node_at (move_at m t)) source ∙ moves.source (λ same. no_target (source ∙ same))),
+          )
       | inr no_source ↦ inl (moves.others q no_source no_target)
     ]
   ]
@@ -113,11 +123,23 @@ moved (m ∷ ms) t =
     record {
       each = λ q. elim (rest.each q) [
         | inr changed ↦
-            inr (sym (first q) ∙ changed.0, elim changed.1 [ inl gone ↦ inl (gone.0, inr gone.1, gone.2, gone.3) | inr put ↦ inr (put.0, inr put.1, put.2, put.3) ])
+            inr (
+              sym (first q) ∙ changed.0,
+              elim changed.1 [
+                | inl gone ↦ inl (gone.0, inr gone.1, gone.2, gone.3)
+                | inr put ↦ inr (put.0, inr put.1, put.2, put.3)
+              ],
+            )
         | inl same ↦ elim (move_each m t q) [
           | inl kept ↦ inl (same ∙ kept)
           | inr changed ↦
-              inr (changed.0, elim changed.1 [ inl gone ↦ inl (m, inl refl, gone.0, same ∙ gone.1) | inr put ↦ inr (m, inl refl, put.0, ap is_leaf same ∙ put.1) ])
+              inr (
+                changed.0,
+                elim changed.1 [
+                  | inl gone ↦ inl (m, inl refl, gone.0, same ∙ gone.1)
+                  | inr put ↦ inr (m, inl refl, put.0, ap is_leaf same ∙ put.1)
+                ],
+              )
         ]
       ];
     }
@@ -154,21 +176,32 @@ can_apart m n t apart =
 
 pub turned : (m n : Move) → Disjoint m n → Disjoint n m
 turned m n a =
-    record { sources = λ e. a.sources (sym e); source_target = λ e. a.target_source (sym e); target_source = λ e. a.source_target (sym e); targets = λ e. a.targets (sym e) }
+    record {
+      sources = λ e. a.sources (sym e);
+      source_target = λ e. a.target_source (sym e);
+      target_source = λ e. a.source_target
+          (sym e);
+      targets = λ e. a.targets (sym e);
+    }
 
 get_both : (m n : Move) (t : Tree) (q : Path) → Disjoint m n → node_at (move_at m (move_at n t)) q ≡
     cond (can_move (node_at t) m)
-    (cond (same_path q m.1) (node_at t m.0) (cond (same_path q m.0) None (cond (can_move (node_at t) n) (cond (same_path q n.1) (node_at t n.0) (cond (same_path q n.0) None (node_at t q))) (node_at t q))))
+    (cond (same_path q m.1) (node_at t m.0)
+    (cond (same_path q m.0) None
+    (cond (can_move (node_at t) n) (cond (same_path q n.1) (node_at t n.0) (cond (same_path q n.0) None (node_at t q))) (node_at t q))))
     (cond (can_move (node_at t) n) (cond (same_path q n.1) (node_at t n.0) (cond (same_path q n.0) None (node_at t q))) (node_at t q))
 unfolding got
 get_both m n t q apart =
     get_move m (move_at n t) q
-    ∙ (λ i. cond (can_apart m n t apart i) (cond (same_path q m.1) ((kept_apart m n t apart).0 i) (cond (same_path q m.0) None (get_move n t q i))) (get_move n t q i))
+    ∙ (λ i. cond (can_apart m n t apart i)
+    (cond (same_path q m.1) ((kept_apart m n t apart).0 i) (cond (same_path q m.0) None (get_move n t q i))) (get_move n t q i))
 
 pub moves_swap : (m n : Move) (t : Tree) → Disjoint m n → move_at m (move_at n t) ≡ move_at n (move_at m t)
 moves_swap m n t a = same_tree _ _ (λ q.
     get_both m n t q a
-    ∙ swap (can_move (node_at t) m) (can_move (node_at t) n) (same_path q m.1) (same_path q m.0) (same_path q n.1) (same_path q n.0) (node_at t m.0) (node_at t n.0) (node_at t q) (one_place q m.1 n.1 a.targets) (one_place q m.1 n.0 a.target_source) (one_place q m.0 n.1 a.source_target) (one_place q m.0 n.0 a.sources)
+    ∙ swap (can_move (node_at t) m) (can_move (node_at t) n) (same_path q m.1) (same_path q m.0) (same_path q n.1) (same_path q n.0)
+    (node_at t m.0) (node_at t n.0) (node_at t q) (one_place q m.1 n.1 a.targets) (one_place q m.1 n.0 a.target_source)
+    (one_place q m.0 n.1 a.source_target) (one_place q m.0 n.0 a.sources)
     ∙ sym (get_both n m t q (turned m n a)))
 
 none_file : {o : Option Node} → o ≡ None → is_leaf o ≡ true → ⊥

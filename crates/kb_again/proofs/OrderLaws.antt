@@ -74,7 +74,14 @@ second_then : (r : Roots) (cs : List Change) → are_in_order 5 cs ≡ true → 
 second_then r [] h = record { steps = refl; no_drops = refl; no_wipes = refl; no_dirs = refl; no_puts = refl }
 second_then r (DropDir path ∷ cs) h =
     let rest = second_then r cs h in
-    record { steps = ap (λ l. act (to_drop_dir path) ∷ l) rest.steps; no_drops = rest.no_drops; no_wipes = rest.no_wipes; no_dirs = rest.no_dirs; no_puts = rest.no_puts }
+    record {
+      steps = ap (λ l. act
+          (to_drop_dir path) ∷ l) rest.steps;
+      no_drops = rest.no_drops;
+      no_wipes = rest.no_wipes;
+      no_dirs = rest.no_dirs;
+      no_puts = rest.no_puts;
+    }
 second_then r (Run request ∷ cs) h =
     let rest = runs_alone r cs h in
     record {
@@ -108,7 +115,13 @@ puts_then : (r : Roots) (cs : List Change) → are_in_order 4 cs ≡ true → Ar
 puts_then r [] h = record { steps = refl; no_drops = refl; no_wipes = refl; no_dirs = refl }
 puts_then r (Put name number target ∷ cs) h =
     let rest = puts_then r cs h in
-    record { steps = ap (λ l. act (to_put (staged_path r name number) target) ∷ l) rest.steps; no_drops = rest.no_drops; no_wipes = rest.no_wipes; no_dirs = rest.no_dirs }
+    record {
+      steps = ap (λ l. act
+          (to_put (staged_path r name number) target) ∷ l) rest.steps;
+      no_drops = rest.no_drops;
+      no_wipes = rest.no_wipes;
+      no_dirs = rest.no_dirs;
+    }
 puts_then r (DropDir path ∷ cs) h = no_more_puts r (DropDir path ∷ cs) (second_then r (DropDir path ∷ cs) h)
 puts_then r (Run request ∷ cs) h = no_more_puts r (Run request ∷ cs) (second_then r (Run request ∷ cs) h)
 puts_then r (Drop path ∷ cs) h = absurd (clash h)

@@ -9,7 +9,7 @@ use Rattle.kb_world.specs.TreeLaws.{same_tree}
 use Rattle.kb_world.specs.Path.{parent, Path}
 use Rattle.kb_again.proofs.Standing.{Standing, Between, Solid, Holds, Cleared, Made}
 use Rattle.kb_again.proofs.Ends.{Move, wipe_at, drop_dir_at, make_dir_at, move_at, in_turn, is_under_one, Dropped, Wiped, IsMember, Moved}
-use Rattle.kb_again.proofs.Parts.{Groups, dropped_tree, wiped_tree, cleared_tree, made_tree, put_tree, done, IsValid, DoneOnce}
+use Rattle.kb_again.proofs.Parts.{Groups, dropped_tree, wiped_tree, cleared_tree, made_tree, put_tree, groups_done, IsValid, DoneOnce}
 use Rattle.kb_again.proofs.Parts.{in_drops, in_wipes, in_first, in_dirs, in_puts, in_second, in_runs}
 use Rattle.kb_again.proofs.EditLaws.{dir_is, dir_test}
 use Rattle.kb_again.proofs.GroupLaws.{dropped, wiped, cleared, made}
@@ -94,7 +94,10 @@ module _ (g : Groups) (valid : IsValid g) where
         λ q listed file. elim
         (m.each q) [ inl same ↦ a.no_file q listed (ap is_leaf (sym same) ∙ file) | inr makes ↦ dir_not_file makes.made file ];
     nothing =
-        λ q listed. elim (m.each q) [ inl same ↦ same ∙ a.nothing q listed | inr makes ↦ absurd (valid.wipes_no_dir q makes.listed listed) ];
+        λ q listed. elim (m.each q) [
+          | inl same ↦ same ∙ a.nothing q listed
+          | inr makes ↦ absurd (valid.wipes_no_dir q makes.listed listed)
+        ];
   }
 
   moved_free : (some : List Move) → ((m : Move) → IsMember m some → IsMember m g.puts) → (old new : Standing) → Moved some old new
@@ -138,7 +141,7 @@ module _ (g : Groups) (valid : IsValid g) where
     pub dirs_made : Made g.dirs (node_at (cleared_tree g t)) (node_at (made_tree g t))
     dirs_made = made g.dirs (cleared_tree g t) valid.dirs_order valid.dirs_root
 
-    pub second_cleared : Cleared g.second (node_at (put_tree g t)) (node_at (done g t))
+    pub second_cleared : Cleared g.second (node_at (put_tree g t)) (node_at (groups_done g t))
     second_cleared = cleared g.second (put_tree g t) valid.second_order
 
     pub cleared_tree_free : IsFree g (node_at (cleared_tree g t))
@@ -150,19 +153,29 @@ module _ (g : Groups) (valid : IsValid g) where
     pub put_tree_free : IsFree g (node_at (put_tree g t))
     put_tree_free = moved_free g.puts (λ m in_it. in_it) _ _ (moved g.puts (made_tree g t)) made_tree_free
 
-    pub done_free : IsFree g (node_at (done g t))
+    pub done_free : IsFree g (node_at (groups_done g t))
     done_free = cleared_free g g.second _ _ second_cleared put_tree_free
 
     -- a directory that is there once all are made was made, or holds what doesn't go
     made_held : (q : Path) → is_listed q g.first ≡ true → node_at (made_tree g t) q ≡ Some node.Dir
         → ((is_listed q g.dirs ≡ true) × (node_at (made_tree g t) (parent q) ≡ Some node.Dir)) ⊎
-        ((r : Path) × (is_over q r ≡ true) × Solid g.first (node_at (wiped_tree g t)) r × (node_at (cleared_tree g t) r ≡ node_at (wiped_tree g t) r) × (node_at (made_tree g t) r ≡ node_at (wiped_tree g t) r))
+        ((r : Path) × (is_over q r ≡ true) × Solid g.first (node_at (wiped_tree g t)) r ×
+        (node_at (cleared_tree g t) r ≡ node_at (wiped_tree g t) r) × (node_at (made_tree g t) r ≡ node_at (wiped_tree g t) r))
     made_held q listed dir = elim (dirs_made.each q) [
       | inr makes ↦ inl (makes.listed, makes.above)
       | inl same ↦
           let w = first_cleared.full q listed (sym same ∙ dir) in
           let kept = solid_kept g.first _ _ w.path first_cleared w.solid in
-          inr (w.path, w.under, w.solid, kept, elim (dirs_made.each w.path) [ inl still ↦ still ∙ kept | inr makes ↦ absurd (w.solid.stands (sym kept ∙ makes.was)) ])
+          inr (
+            w.path,
+            w.under,
+            w.solid,
+            kept,
+            elim (dirs_made.each w.path) [
+              | inl still ↦ still ∙ kept
+              | inr makes ↦ absurd (w.solid.stands (sym kept ∙ makes.was))
+            ],
+          )
     ]
 
     -- with some of the moves done
@@ -212,21 +225,25 @@ module _ (g : Groups) (valid : IsValid g) where
     rest_of : Tree → Tree
     rest_of u = in_turn drop_dir_at g.second (in_turn move_at g.puts (again_dirs u))
 
-    from_third : (u : Tree) → IsFree g (node_at u) → done g u ≡ rest_of u
+    from_third : (u : Tree) → IsFree g (node_at u) → groups_done g u ≡ rest_of u
     unfolding rest_of again_dirs
     from_third u free =
         ap (λ v. in_turn drop_dir_at g.second (in_turn move_at g.puts (in_turn make_dir_at g.dirs (in_turn drop_dir_at g.first v))))
         (free_start u free)
 
-    in_dirs_once : (u : Tree) → Between (node_at (cleared_tree g t)) (node_at (made_tree g t)) (node_at u) → done g u ≡ done g t
+    in_dirs_once : (u : Tree) → Between (node_at (cleared_tree g t)) (node_at (made_tree g t)) (node_at u) → groups_done g u ≡ groups_done g t
     unfolding rest_of
     in_dirs_once u between =
         from_third u (between_free g _ _ _ cleared_tree_free made_tree_free between)
-        ∙ ap (λ v. in_turn drop_dir_at g.second (in_turn move_at g.puts v)) (same_tree _ _ (same_between _ _ (again (node_at (made_tree g t)) (node_at (made_tree g t)) u (record {
+        ∙ ap (λ v. in_turn drop_dir_at g.second (in_turn move_at g.puts v))
+        (same_tree _ _ (same_between _ _ (again (node_at (made_tree g t)) (node_at (made_tree g t)) u (record {
           each = λ q. elim (between q) [
             | inr now ↦ inl (inl now)
             | inl was ↦
-                elim (dirs_made.each q) [ inl same ↦ inl (inl (was ∙ sym same)) | inr makes ↦ inr (makes.listed, makes.made, was ∙ makes.was, makes.above) ]
+                elim (dirs_made.each q) [
+                  | inl same ↦ inl (inl (was ∙ sym same))
+                  | inr makes ↦ inr (makes.listed, makes.made, was ∙ makes.was, makes.above)
+                ]
           ];
           held = λ q listed dir. elim (made_held q listed (elim (between q) [
             | inr now ↦ sym now ∙ dir
@@ -234,20 +251,28 @@ module _ (g : Groups) (valid : IsValid g) where
           ])) [
             | inl made ↦ inl made
             | inr w ↦
-                inr (record { path = w.0; under = w.1; solid = solid_same g.first _ _ w.0 (elim (between w.0) [ inl was ↦ was ∙ w.3 | inr now ↦ now ∙ w.4 ]) w.2 })
+                inr (record {
+                  path = w.0;
+                  under = w.1;
+                  solid = solid_same g.first _ _ w.0 (elim (between w.0) [
+                    | inl was ↦ was ∙ w.3
+                    | inr now ↦ now ∙ w.4
+                  ]) w.2;
+                })
           ];
           full = dirs_made.full;
           ends = λ q. inl refl;
         }))))
 
     in_puts_once : (some : List Move) → ((m : Move) → IsMember m some → IsMember m g.puts)
-        → done g (in_turn move_at some (made_tree g t)) ≡ done g t
+        → groups_done g (in_turn move_at some (made_tree g t)) ≡ groups_done g t
     unfolding rest_of
     in_puts_once some sub =
         let u = in_turn move_at some (made_tree g t) in
         let m = moved some (made_tree g t) in
         from_third u (moved_free some sub _ _ m made_tree_free)
-        ∙ ap (λ v. in_turn drop_dir_at g.second (in_turn move_at g.puts v)) (same_tree _ _ (same_between _ _ (again (node_at u) (node_at u) u (record {
+        ∙ ap (λ v. in_turn drop_dir_at g.second (in_turn move_at g.puts v))
+        (same_tree _ _ (same_between _ _ (again (node_at u) (node_at u) u (record {
           each = λ q. inl (inl refl);
           held = moved_held some sub (node_at u) m;
           full = moved_full some sub (node_at u) m;
@@ -255,20 +280,20 @@ module _ (g : Groups) (valid : IsValid g) where
         }))))
         ∙ ap (in_turn drop_dir_at g.second) (moves_before g.puts some valid.apart sub (made_tree g t))
 
-    in_second_once : (u : Tree) → Between (node_at (put_tree g t)) (node_at (done g t)) (node_at u) → done g u ≡ done g t
+    in_second_once : (u : Tree) → Between (node_at (put_tree g t)) (node_at (groups_done g t)) (node_at u) → groups_done g u ≡ groups_done g t
     unfolding rest_of
     in_second_once u between =
         let m = moved g.puts (made_tree g t) in
         let c = second_cleared in
-        let between_dir : (look : Standing) → Between (node_at (put_tree g t)) (node_at (done g t)) look →
+        let between_dir : (look : Standing) → Between (node_at (put_tree g t)) (node_at (groups_done g t)) look →
         (q : Path) → look q ≡ Some node.Dir → node_at (put_tree g t) q ≡ Some node.Dir =
         λ look b q dir. elim (b q) [
           | inl was ↦ sym was ∙ dir
           | inr now ↦ elim (c.each q) [ inl same ↦ sym same ∙ sym now ∙ dir | inr goes ↦ goes.was ]
         ] in
         let v = again_dirs u in
-        let reaches : Between (node_at (put_tree g t)) (node_at (done g t)) (node_at v) =
-        again (node_at (put_tree g t)) (node_at (done g t)) u (record {
+        let reaches : Between (node_at (put_tree g t)) (node_at (groups_done g t)) (node_at v) =
+        again (node_at (put_tree g t)) (node_at (groups_done g t)) u (record {
           each = λ q. inl (between q);
           held = λ q listed dir. elim (moved_held g.puts (λ k in_it. in_it) _ m q listed (between_dir (node_at u) between q dir)) [
             | inl made ↦ inl made
@@ -296,22 +321,30 @@ module _ (g : Groups) (valid : IsValid g) where
         let file : is_leaf (node_at (put_tree g t) k.0) ≡ true = elim (reaches k.0) [
           | inl was ↦ ap is_leaf (sym was) ∙ inner.0
           | inr now ↦
-              elim (c.each k.0) [ inl same ↦ ap is_leaf (sym same ∙ sym now) ∙ inner.0 | inr goes ↦ absurd (none_not_file (now ∙ goes.gone) inner.0) ]
+              elim (c.each k.0) [
+                | inl same ↦ ap is_leaf (sym same ∙ sym now) ∙ inner.0
+                | inr goes ↦ absurd (none_not_file (now ∙ goes.gone) inner.0)
+              ]
         ] in
         let no_dir : not (is_dir (node_at (put_tree g t) k.1)) ≡ true = elim (reaches k.1) [
           | inl was ↦ ap (λ o. not (is_dir o)) (sym was) ∙ inner.1
           | inr now ↦
-              elim (c.each k.1) [ inl same ↦ ap (λ o. not (is_dir o)) (sym same ∙ sym now) ∙ inner.1 | inr goes ↦ absurd (valid.no_second k in_it goes.listed) ]
+              elim (c.each k.1) [
+                | inl same ↦ ap (λ o. not (is_dir o)) (sym same ∙ sym now) ∙ inner.1
+                | inr goes ↦ absurd (valid.no_second k in_it goes.listed)
+              ]
         ] in
         let above = dir_test _ (between_dir (node_at v) reaches (parent k.1) (dir_is _ parts.1)) in
         true≢false (sym (and_from _ _ (and_from _ _ file no_dir) above) ∙ all_moved g.puts valid.apart k in_it (made_tree g t)))) in
         from_third u (between_free g _ _ _ put_tree_free done_free between)
         ∙ ap (in_turn drop_dir_at g.second) still
-        ∙ same_tree _ _ (cleared_again g.second (node_at (put_tree g t)) (node_at (done g t)) (node_at v) _ c (cleared g.second v valid.second_order) reaches)
+        ∙ same_tree _ _ (cleared_again g.second (node_at (put_tree g t)) (node_at (groups_done g t)) (node_at v) _ c
+        (cleared g.second v valid.second_order) reaches)
 
 pub done_once : DoneOnce
 done_once g t u valid (in_drops between) =
-    ap (λ v. in_turn drop_dir_at g.second (in_turn move_at g.puts (in_turn make_dir_at g.dirs (in_turn drop_dir_at g.first (in_turn wipe_at g.wipes v)))))
+    ap (λ v. in_turn drop_dir_at g.second
+    (in_turn move_at g.puts (in_turn make_dir_at g.dirs (in_turn drop_dir_at g.first (in_turn wipe_at g.wipes v)))))
     (same_tree _ _ (dropped_again g.drops _ _ _ _ (dropped g.drops t) (dropped g.drops u) between))
 done_once g t u valid (in_wipes between) =
     let d = dropped g.drops t in
@@ -325,20 +358,22 @@ done_once g t u valid (in_wipes between) =
 done_once g t u valid (in_first between) =
     let c = cleared g.first (wiped_tree g t) valid.first_order in
     ap (λ v. in_turn drop_dir_at g.second (in_turn move_at g.puts (in_turn make_dir_at g.dirs v)))
-    (ap (in_turn drop_dir_at g.first) (free_start g valid u (between_free g _ _ _ (wiped_free g valid t) (cleared_free g g.first _ _ c (wiped_free g valid t)) between))
+    (ap (in_turn drop_dir_at g.first)
+    (free_start g valid u (between_free g _ _ _ (wiped_free g valid t) (cleared_free g g.first _ _ c (wiped_free g valid t)) between))
     ∙ same_tree _ _ (cleared_again g.first _ _ _ _ c (cleared g.first u valid.first_order) between))
 done_once g t u valid (in_dirs between) = in_dirs_once g valid t u between
-done_once g t u valid (in_puts some sub is) = ap (done g) is ∙ in_puts_once g valid t some sub
+done_once g t u valid (in_puts some sub is) = ap (groups_done g) is ∙ in_puts_once g valid t some sub
 done_once g t u valid (in_second between) = in_second_once g valid t u between
 done_once g t u valid (in_runs soft) =
     let d = dropped g.drops u in
     let free = done_free g valid t in
-    let same : dropped_tree g u ≡ done g t = same_tree _ _ (λ q. elim (soft q) [
+    let same : dropped_tree g u ≡ groups_done g t = same_tree _ _ (λ q. elim (soft q) [
       | inl same ↦ elim (d.each q) [ inl kept ↦ kept ∙ same | inr gone ↦ absurd (free.no_file q gone.0 (ap is_leaf (sym same) ∙ gone.1)) ]
       | inr open_at ↦
           nothing_else _ (elim (d.each q) [ inl kept ↦ ap is_dir kept ∙ open_at.2 | inr gone ↦ ap is_dir gone.2 ]) (d.gone q open_at.0)
           ∙ sym (nothing_else _ open_at.1 (free.no_file q open_at.0))
     ]) in
-    ap (λ v. in_turn drop_dir_at g.second (in_turn move_at g.puts (in_turn make_dir_at g.dirs (in_turn drop_dir_at g.first (in_turn wipe_at g.wipes v)))))
-    (same ∙ sym (free_dropped g (done g t) free.no_file))
-    ∙ in_second_once g valid t (done g t) (λ q. inr refl)
+    ap (λ v. in_turn drop_dir_at g.second
+    (in_turn move_at g.puts (in_turn make_dir_at g.dirs (in_turn drop_dir_at g.first (in_turn wipe_at g.wipes v)))))
+    (same ∙ sym (free_dropped g (groups_done g t) free.no_file))
+    ∙ in_second_once g valid t (groups_done g t) (λ q. inr refl)

@@ -30,8 +30,8 @@ abbrev pub put_tree : Groups → Tree → Tree
 put_tree g t = in_turn move_at g.puts (made_tree g t)
 
 -- the tree after all changes but the runs
-abbrev pub done : Groups → Tree → Tree
-done g t = in_turn drop_dir_at g.second (put_tree g t)
+abbrev pub groups_done : Groups → Tree → Tree
+groups_done g t = in_turn drop_dir_at g.second (put_tree g t)
 
 pub record IsValid (g : Groups) : Type 0 where
   pub first_order : IsUpward g.first
@@ -57,10 +57,12 @@ pub data IsPart (g : Groups) (t u : Tree) : Type 0 where
   in_dirs : Between (node_at (cleared_tree g t)) (node_at (made_tree g t)) (node_at u) → IsPart g t u
   in_puts : (some : List Move) → ((m : Move) → IsMember m some → IsMember m g.puts) → u ≡ in_turn move_at some (made_tree g t)
       → IsPart g t u
-  in_second : Between (node_at (put_tree g t)) (node_at (done g t)) (node_at u) → IsPart g t u
-  in_runs : ((q : Path) → (node_at u q ≡ node_at (done g t) q) ⊎ ((is_listed q g.drops ≡ true) × (is_dir (node_at (done g t) q) ≡ false) × (is_dir (node_at u q) ≡ false)))
+  in_second : Between (node_at (put_tree g t)) (node_at (groups_done g t)) (node_at u) → IsPart g t u
+  in_runs : ((q : Path)
+      → (node_at u q ≡ node_at (groups_done g t) q) ⊎
+      ((is_listed q g.drops ≡ true) × (is_dir (node_at (groups_done g t) q) ≡ false) × (is_dir (node_at u q) ≡ false)))
       → IsPart g t u
 
 -- doing all again from any of them gives what doing all once gives
 abbrev pub DoneOnce : Type 0
-DoneOnce = (g : Groups) (t u : Tree) → IsValid g → IsPart g t u → done g u ≡ done g t
+DoneOnce = (g : Groups) (t u : Tree) → IsValid g → IsPart g t u → groups_done g u ≡ groups_done g t

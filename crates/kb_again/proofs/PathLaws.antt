@@ -139,7 +139,10 @@ listed_cons q p ps h = elim (or_cases _ _ h) [ inl here ↦ inl (same_path-true 
 
 pub listed_more : (q p : Path) (ps : List Path) → is_listed q ps ≡ true → is_listed q (p ∷ ps) ≡ true
 listed_more q p ps h =
-    elim (cases_Bool (same_path q p)) [ inl here ↦ ap (λ b. b || is_listed q ps) here | inr other ↦ ap (λ b. b || is_listed q ps) other ∙ h ]
+    elim (cases_Bool (same_path q p)) [
+      | inl here ↦ ap (λ b. b || is_listed q ps) here
+      | inr other ↦ ap (λ b. b || is_listed q ps) other ∙ h
+    ]
 
 pub listed_first : (q p : Path) (ps : List Path) → q ≡ p → is_listed q (p ∷ ps) ≡ true
 listed_first q p ps same = ap (λ b. b || is_listed q ps) (ap (same_path q) (sym same) ∙ same_path-refl q)

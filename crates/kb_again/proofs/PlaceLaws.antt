@@ -60,8 +60,13 @@ IsInBuild r q = (m : List ℕ) × (v : List ℕ) × (is_key (key_of m v) ≡ tru
 build_place : (r : Roots) (q : Path) (place : StorePath) → store_path r q ≡ Some place → is_in_scratch (Some place) ≡ true → IsInBuild r q
 build_place r q (InScratch key rest) e h =
     let told = told_both r q (InScratch key rest) e in
-    let is : build_at r key.module key.version ++ rest ≡ q = sym (build_is r key.module key.version rest) ∙ told.1 in
-    (key.module, key.version, told.0, subst (λ x. is_over (build_at r key.module key.version) x ≡ true) is (under-append (build_at r key.module key.version) rest))
+    let is : build_at r key.module key.version ++ rest ≡ q = sym (build_is r key.module key.version rest) ∙ told.1 in (
+      key.module,
+      key.version,
+      told.0,
+      subst (λ x. is_over (build_at r key.module key.version) x ≡ true) is
+          (under-append (build_at r key.module key.version) rest),
+    )
 build_place r q (SourceLink key) e h = absurd (true≢false (sym h))
 build_place r q (Targets key spot) e h = absurd (true≢false (sym h))
 build_place r q (InBox key spot rest) e h = absurd (true≢false (sym h))

@@ -14,7 +14,7 @@ use Rattle.kb_world.proofs.PublicLaws.{node_at-public_tree}
 use Rattle.kb_changes.specs.Valid.{is_initrd, written_roots}
 use Rattle.kb_again.proofs.EditLaws.{dir_is}
 use Rattle.kb_again.proofs.Ends.{in_turn, is_under_one}
-use Rattle.kb_again.proofs.Facts.{AreRoots, Lists, groups_of, is_open, is_beside, is_steady, IsValidUnder}
+use Rattle.kb_again.proofs.Facts.{AreRoots, Lists, groups_of, is_open, is_beside, is_kept, IsValidUnder}
 use Rattle.kb_again.proofs.Flat.{Act, to_drop, to_wipe, to_drop_dir, to_make, to_put, do_act, acts_of}
 use Rattle.kb_again.proofs.FrontLaws.{in_turn-append, all_done}
 use Rattle.kb_again.proofs.Kept.{SameOn, SameDirs, IsWhole}
@@ -67,7 +67,7 @@ initrd_loose r q o is file =
     eq-eqb (length q) (length r.boot + 1) (ap length w.1 ∙ length_child r.boot w.0) in
     and_from _ _ (and_from _ _ under deep) (ap not file)
 
-pub public_same : (r : Roots) (t u : Tree) → SameOn (is_steady r) t u → SameDirs (is_beside r) t u → public_tree r t ≡ public_tree r u
+pub public_same : (r : Roots) (t u : Tree) → SameOn (is_kept r) t u → SameDirs (is_beside r) t u → public_tree r t ≡ public_tree r u
 public_same r t u same dirs = same_tree _ _ (λ q.
     let written = is_under_one (written_roots r) q in
     let beyond : (v : Tree) → written ≡ false → node_at (public_tree r v) q ≡ None =
@@ -77,7 +77,7 @@ public_same r t u same dirs = same_tree _ _ (λ q.
     (ap (λ b. (written && b) && not (is_loose r q (node_at v q))) out ∙ no_second written (not (is_loose r q (node_at v q)))) in
     let loose : (v : Tree) → is_loose r q (node_at v q) ≡ true → node_at (public_tree r v) q ≡ None = λ v is.
     hidden_there r v q (ap (λ b. (written && is_open r q) && not b) is ∙ and_false (written && is_open r q)) in
-    elim (cases_Bool (is_steady r q)) [
+    elim (cases_Bool (is_kept r q)) [
       | inl is ↦ shown_alike r t u q (same q is)
       | inr out ↦ elim (and_cases written (is_open r q && not (is_initrd r q)) out) [
         | inl outside ↦ beyond t outside ∙ sym (beyond u outside)

@@ -13,7 +13,7 @@ use Rattle.kb_again.proofs.ChangeLaws.{change_same, steps_are}
 use Rattle.kb_again.proofs.Facts.{lists_of, groups_of}
 use Rattle.kb_again.proofs.Flat.{Act, do_act, do_acts, acts_of}
 use Rattle.kb_again.proofs.FrontLaws.{all_done}
-use Rattle.kb_again.proofs.Parts.{done}
+use Rattle.kb_again.proofs.Parts.{groups_done}
 use Rattle.kb_again.proofs.Steps.{Step, act, run, step_of, run_request, run_replies, runs_made}
 
 abbrev asked : Request → Tree → List Request
@@ -92,18 +92,18 @@ runs_reply f r (c ∷ cs) t =
     by false l = refl
 
 pub requests_made : (r : Roots) (f : Script) (cs : List Change) (t : Tree) → is_valid r cs ≡ true
-    → requests_of r f cs t ≡ runs_made f r (lists_of cs).runs (done (groups_of r (lists_of cs)) t)
+    → requests_of r f cs t ≡ runs_made f r (lists_of cs).runs (groups_done (groups_of r (lists_of cs)) t)
 requests_made r f cs t valid =
     let s = lists_of cs in
     requests_are r f cs t ∙ ap (λ xs. step_requests f r xs t) (steps_are r cs valid)
     ∙ acts_then f r (acts_of (groups_of r s)) (map run s.runs) t ∙ ap (step_requests f r (map run s.runs)) (all_done (groups_of r s) t)
-    ∙ runs_ask f r s.runs (done (groups_of r s) t)
+    ∙ runs_ask f r s.runs (groups_done (groups_of r s) t)
 
 pub replies_made : (r : Roots) (f : Script) (cs : List Change) (t : Tree) → is_valid r cs ≡ true
-    → replies_of r f cs t ≡ run_replies f r (lists_of cs).runs (done (groups_of r (lists_of cs)) t)
+    → replies_of r f cs t ≡ run_replies f r (lists_of cs).runs (groups_done (groups_of r (lists_of cs)) t)
 replies_made r f cs t valid =
     let s = lists_of cs in
     replies_are r f cs t ∙ ap (λ xs. step_replies f r xs t) (steps_are r cs valid)
     ∙ acts_then_replies f r (acts_of (groups_of r s)) (map run s.runs) t
     ∙ ap (step_replies f r (map run s.runs)) (all_done (groups_of r s) t)
-    ∙ runs_reply f r s.runs (done (groups_of r s) t)
+    ∙ runs_reply f r s.runs (groups_done (groups_of r s) t)

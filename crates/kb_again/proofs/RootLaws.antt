@@ -13,7 +13,8 @@ use Rattle.kb_changes.specs.Valid.{written_roots, new_intent_path}
 use Rattle.kb_changes.specs.declared.change.RootName.{RootName}
 use Rattle.kb_changes.specs.declared.change.RootName.TheVariants as root_name
 use Rattle.kb_again.proofs.Ends.{is_under_one}
-use Rattle.kb_again.proofs.Facts.{all_roots, AreDisjoint, AreRoots, staging_paths, untouched, is_open}
+use Rattle.kb_again.specs.Within.{staging_paths}
+use Rattle.kb_again.proofs.Facts.{all_roots, AreDisjoint, AreRoots, untouched, is_open}
 use Rattle.kb_again.proofs.FrontLaws.{listed_left}
 use Rattle.kb_again.proofs.KeptLaws.{one_above}
 use Rattle.kb_again.proofs.PathLaws.{is_over, is_above, is_listed, bytes_itself, over_itself, over_over, above_over, over_cases, not_above_itself, above_over_above, above_from, none_above_root, above_names, above_cons, above_parent, above_up, listed_cons, listed_more, listed_first}
@@ -228,7 +229,8 @@ private_entry r h e = elim (listed_cons h (intent_path r) (new_intent_path r ∷
   | inr e1 ↦ elim (listed_cons h (new_intent_path r) (staging_paths r ++ plugins_path r ∷ []) e1) [
     | inl is ↦ (r.dkms, codes ".intent.new", is_root r root_name.Dkms, is)
     | inr e2 ↦
-        elim (listed_cons h (staging_path r.dkms) (staging_path r.src ∷ staging_path r.modules ∷ staging_path r.boot ∷ plugins_path r ∷ []) e2) [
+        elim (listed_cons h (staging_path r.dkms)
+        (staging_path r.src ∷ staging_path r.modules ∷ staging_path r.boot ∷ plugins_path r ∷ []) e2) [
           | inl is ↦ (r.dkms, codes ".kb-staged", is_root r root_name.Dkms, is)
           | inr e3 ↦ elim (listed_cons h (staging_path r.src) (staging_path r.modules ∷ staging_path r.boot ∷ plugins_path r ∷ []) e3) [
             | inl is ↦ (r.src, codes ".kb-staged", is_root r root_name.Src, is)

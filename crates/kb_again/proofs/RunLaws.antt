@@ -15,11 +15,11 @@ use Rattle.kb_world.specs.declared.roots.Roots.{Roots}
 use Rattle.kb_changes.specs.declared.change.RootName.TheVariants as root_name
 use Rattle.kb_again.specs.Sparing.{reaches}
 use Rattle.kb_again.proofs.Ends.{in_turn, is_under_one, IsMember}
-use Rattle.kb_again.proofs.Facts.{all_roots, AreRoots, is_open, is_beside, is_steady, build_at, staged_at, Lists, groups_of, IsValidUnder}
+use Rattle.kb_again.proofs.Facts.{all_roots, AreRoots, is_open, is_beside, is_kept, build_at, staged_at, Lists, groups_of, IsValidUnder}
 use Rattle.kb_again.proofs.FrontLaws.{listed_left}
 use Rattle.kb_again.proofs.Kept.{SameOn, SameDirs, IsWhole}
 use Rattle.kb_again.proofs.KeptLaws.{kept_again, kept_after}
-use Rattle.kb_again.proofs.Parts.{done}
+use Rattle.kb_again.proofs.Parts.{groups_done}
 use Rattle.kb_again.proofs.PathLaws.{is_over, is_above, is_listed, same_bytes, over_over, over_above, above_over, above_over_above, not_above_itself}
 use Rattle.kb_again.proofs.PlaceLaws.{entry_is, initrd_child, build_parts}
 use Rattle.kb_again.proofs.RootLaws.{above_child, child_above, inside_some, private_entry, disjoint_below, is_root, open_from, base_above, modules_boot}
@@ -49,14 +49,14 @@ base_open r roots =
           not_above_itself r.dkms (over_above r.dkms r.base r.dkms (over_over r.dkms (build_at r w.0 w.1) r.base up w.3) above_dkms)
     ])
 
-pub record SeesSteady (r : Roots) (c : Request) : Type 0 where
+pub record SeesKept (r : Roots) (c : Request) : Type 0 where
   pub dir : is_beside r c.dir ≡ true
-  pub sees_it : (q : Path) → sees r c q ≡ true → is_steady r q ≡ true
+  pub sees_it : (q : Path) → sees r c q ≡ true → is_kept r q ≡ true
 
 run_same : (f : Script) (r : Roots) (c : Request) (t u : Tree)
-    → ((q : Path) → is_steady r q ≡ true → (is_steady r (parent q) ≡ true) ⊎ (is_beside r (parent q) ≡ true))
-    → (c.area ≡ Nothing) ⊎ SeesSteady r c → SameOn (is_steady r) t u → SameDirs (is_beside r) t u
-    → SameOn (is_steady r) (run_request f r c t) (run_request f r c u)
+    → ((q : Path) → is_kept r q ≡ true → (is_kept r (parent q) ≡ true) ⊎ (is_beside r (parent q) ≡ true))
+    → (c.area ≡ Nothing) ⊎ SeesKept r c → SameOn (is_kept r) t u → SameDirs (is_beside r) t u
+    → SameOn (is_kept r) (run_request f r c t) (run_request f r c u)
 run_same f r c t u above (inl none) same dirs_in q is =
     ap (λ v. node_at v q) (run_nothing f r c t none) ∙ same q is ∙ sym (ap (λ v. node_at v q) (run_nothing f r c u none))
 run_same f r c t u above (inr ok) same dirs_in q is =
@@ -64,7 +64,7 @@ run_same f r c t u above (inr ok) same dirs_in q is =
     elim (cases_Bool (is_dir (node_at t c.dir))) [
       | inl dir ↦
           ap (λ b. node_at (cond b (in_turn (effect_in c.area) (writes f c (view_of r c t)) t) t) q) dir
-          ∙ effects_same (is_steady r) (is_beside r) above c.area (writes f c (view_of r c t)) t u same dirs_in q is
+          ∙ effects_same (is_kept r) (is_beside r) above c.area (writes f c (view_of r c t)) t u same dirs_in q is
           ∙ ap (λ w. node_at (in_turn (effect_in c.area) (writes f c w) u) q) (view_same r c t u ok.sees_it same)
           ∙ sym (ap (λ b. node_at (cond b (in_turn (effect_in c.area) (writes f c (view_of r c u)) u) u) q) (sym dirs ∙ dir))
       | inr isnt ↦
@@ -74,12 +74,12 @@ run_same f r c t u above (inr ok) same dirs_in q is =
     ]
 
 abbrev AreOpenRuns : Roots → List Request → Type 0
-AreOpenRuns r cs = (c : Request) → IsMember c cs → (c.area ≡ Nothing) ⊎ SeesSteady r c
+AreOpenRuns r cs = (c : Request) → IsMember c cs → (c.area ≡ Nothing) ⊎ SeesKept r c
 
 runs_same : (f : Script) (r : Roots) (cs : List Request) (t u : Tree)
-    → ((q : Path) → is_steady r q ≡ true → (is_steady r (parent q) ≡ true) ⊎ (is_beside r (parent q) ≡ true)) → AreOpenRuns r cs
-    → SameOn (is_steady r) t u → SameDirs (is_beside r) t u
-    → SameOn (is_steady r) (in_turn (run_request f r) cs t) (in_turn (run_request f r) cs u)
+    → ((q : Path) → is_kept r q ≡ true → (is_kept r (parent q) ≡ true) ⊎ (is_beside r (parent q) ≡ true)) → AreOpenRuns r cs
+    → SameOn (is_kept r) t u → SameDirs (is_beside r) t u
+    → SameOn (is_kept r) (in_turn (run_request f r) cs t) (in_turn (run_request f r) cs u)
 runs_same f r [] t u above dirs same dirs_in = same
 runs_same f r (c ∷ cs) t u above dirs same dirs_in =
     runs_same f r cs _ _ above (λ d h. dirs d (inr h)) (run_same f r c t u above (dirs c (inl refl)) same dirs_in)
@@ -115,9 +115,13 @@ module _ (r : Roots) (s : Lists) (roots : AreRoots r) (valid : IsValidUnder r s)
   base_beside : is_beside r r.base ≡ true
   base_beside = or_right _ _ (or_left _ _ (base_above r roots))
 
-  kernel_steady : (k : List ℕ) (q : Path) → is_over (child r.modules k) q ≡ true → is_open r q ≡ true → is_steady r q ≡ true
-  kernel_steady k q under open_at =
-      and_from _ _ (or_right _ _ (or_right _ _ (or_left _ _ (over_over r.modules (child r.modules k) q (above_over r.modules (child r.modules k) (child_above r.modules k)) under)))) (and_from _ _ open_at (ap not (false_from_ne_true _ (λ is.
+  kernel_kept : (k : List ℕ) (q : Path) → is_over (child r.modules k) q ≡ true → is_open r q ≡ true → is_kept r q ≡ true
+  kernel_kept k q under open_at =
+      and_from _ _ (or_right _ _
+      (or_right _ _ (or_left _ _
+      (over_over r.modules (child r.modules k) q
+      (above_over r.modules (child r.modules k)
+      (child_above r.modules k)) under)))) (and_from _ _ open_at (ap not (false_from_ne_true _ (λ is.
       let w = initrd_child r q is in
       let below : is_above r.modules (child r.boot w.0) ≡ true =
       subst (λ x. is_above r.modules x ≡ true) w.1 (above_over_above r.modules (child r.modules k) q (child_above r.modules k) under) in
@@ -143,39 +147,47 @@ module _ (r : Roots) (s : Lists) (roots : AreRoots r) (valid : IsValidUnder r s)
       dir = ap (is_beside r) index.1.dir ∙ base_beside;
       sees_it = λ q is.
           let parts = seen_parts c h q is in
-          kernel_steady index.0 q
-          (elim (or_cases _ _ (ap (λ l. is_under_one l q) (sym index.1.seen) ∙ parts.0)) [ inl under ↦ under | inr none ↦ absurd (true≢false (sym none)) ]) parts.1;
+          kernel_kept index.0 q
+          (elim (or_cases _ _ (ap (λ l. is_under_one l q) (sym index.1.seen) ∙ parts.0)) [
+            | inl under ↦ under
+            | inr none ↦ absurd (true≢false (sym none))
+          ]) parts.1;
     })
   ]
 
   all_same : (f : Script) (t u : Tree)
-      → SameOn (is_steady r) (done (groups_of r s) t) (done (groups_of r s) u) × SameDirs (is_beside r) (done (groups_of r s) t)
-      (done (groups_of r s) u)
-      → SameOn (is_steady r) (after_all f r s t) (after_all f r s u) × SameDirs (is_beside r) (after_all f r s t) (after_all f r s u)
-  all_same f t u same =
-      (runs_same f r s.runs _ _ (groups_hidden r s roots valid).above runs_open same.0 same.1, λ q is. runs_dirs f r s.runs (done (groups_of r s) t) q ∙ same.1 q is ∙ sym (runs_dirs f r s.runs (done (groups_of r s) u) q))
+      → SameOn (is_kept r) (groups_done (groups_of r s) t) (groups_done (groups_of r s) u) × SameDirs (is_beside r) (groups_done (groups_of r s) t)
+      (groups_done (groups_of r s) u)
+      → SameOn (is_kept r) (after_all f r s t) (after_all f r s u) × SameDirs (is_beside r) (after_all f r s t) (after_all f r s u)
+  all_same f t u same = (
+    runs_same f r s.runs _ _ (groups_hidden r s roots valid).above runs_open same.0 same.1,
+    λ q is. runs_dirs f r s.runs
+        (groups_done (groups_of r s) t) q ∙ same.1 q is ∙ sym (runs_dirs f r s.runs (groups_done (groups_of r s) u) q),
+  )
 
   pub left_same : (f : Script) (t u : Tree) → IsWhole t → IsWhole u → IsBehind f r s t u
-      → SameOn (is_steady r) (after_all f r s t) (after_all f r s u) × SameDirs (is_beside r) (after_all f r s t) (after_all f r s u)
+      → SameOn (is_kept r) (after_all f r s t) (after_all f r s u) × SameDirs (is_beside r) (after_all f r s t) (after_all f r s u)
   left_same f t u whole whole_u (among_groups v part whole_v same dirs staged) =
       all_same f t u
-      (kept_again (is_steady r) (is_beside r) (groups_of r s) t v u (groups_valid r s roots valid) (groups_hidden r s roots valid) part whole_v whole_u same dirs (λ m h is.
+      (kept_again (is_kept r) (is_beside r) (groups_of r s) t v u (groups_valid r s roots valid)
+      (groups_hidden r s roots valid) part whole_v whole_u same dirs (λ m h is.
       let w = move_from r s roots valid s.puts m h in
       inl (subst (λ k. node_at u k.0 ≡ node_at v k.0) (sym w.2) (staged w.0 w.1))))
   left_same f t u whole whole_u (among_runs front back e soft dirs staged) =
-      let ran : IsSoftly s.drops (done (groups_of r s) t) (after_runs f r s front t) =
+      let ran : IsSoftly s.drops (groups_done (groups_of r s) t) (after_runs f r s front t) =
       runs_softly s.drops f r front (λ c h. area_dropped c (subst (IsMember c) e (member_left front back c h)))
-      (done (groups_of r s) t) in
+      (groups_done (groups_of r s) t) in
       all_same f t u
-      (kept_after (is_steady r) (is_beside r) (groups_of r s) t u (groups_valid r s roots valid) (groups_hidden r s roots valid) whole whole_u
+      (kept_after (is_kept r) (is_beside r) (groups_of r s) t u (groups_valid r s roots valid)
+      (groups_hidden r s roots valid) whole whole_u
       (λ q is. elim (soft q is) [
         | inl same ↦ elim (ran q) [ inl was ↦ inl (same ∙ was) | inr changed ↦ inr (changed.0, changed.1, ap is_dir same ∙ changed.2) ]
         | inr now ↦ elim (ran q) [ inl was ↦ inr (now.0, ap is_dir (sym was) ∙ now.1, now.2) | inr changed ↦ inr (now.0, changed.1, now.2) ]
       ])
-      (λ q is. sym (runs_dirs f r front (done (groups_of r s) t) q) ∙ dirs q is)
+      (λ q is. sym (runs_dirs f r front (groups_done (groups_of r s) t) q) ∙ dirs q is)
       (λ m h.
       let w = move_from r s roots valid s.puts m h in
-      let at_place : (node_at u (staged_at r w.0) ≡ node_at (done (groups_of r s) t) (staged_at r w.0)) ⊎
+      let at_place : (node_at u (staged_at r w.0) ≡ node_at (groups_done (groups_of r s) t) (staged_at r w.0)) ⊎
       (node_at u (staged_at r w.0) ≡ None) =
       elim (staged w.0 w.1) [
         | inr none ↦ inr none
@@ -184,4 +196,4 @@ module _ (r : Roots) (s : Lists) (roots : AreRoots r) (valid : IsValidUnder r s)
           | inr changed ↦ absurd (no_staged r s roots valid w.0 (staged_at r w.0) (listed_left (staged_at r w.0) s.drops _ changed.0) refl)
         ]
       ] in
-      subst (λ k. (node_at u k.0 ≡ node_at (done (groups_of r s) t) k.0) ⊎ (node_at u k.0 ≡ None)) (sym w.2) at_place))
+      subst (λ k. (node_at u k.0 ≡ node_at (groups_done (groups_of r s) t) k.0) ⊎ (node_at u k.0 ≡ None)) (sym w.2) at_place))

@@ -17,7 +17,8 @@ use Rattle.kb_changes.specs.Valid.{written_roots, is_initrd, is_kept_out, kept_o
 use Rattle.kb_changes.specs.declared.change.RootName.TheVariants as root_name
 use Rattle.kb_again.specs.Sparing.{reaches, is_list_of_names, counts, IsSparing, settled}
 use Rattle.kb_again.proofs.Ends.{is_under_one, IsMember}
-use Rattle.kb_again.proofs.Facts.{all_roots, AreRoots, untouched, staging_paths, is_open, Lists, targets, IsValidUnder}
+use Rattle.kb_again.specs.Within.{staging_paths}
+use Rattle.kb_again.proofs.Facts.{all_roots, AreRoots, untouched, is_open, Lists, targets, IsValidUnder}
 use Rattle.kb_again.proofs.FrontLaws.{listed_left}
 use Rattle.kb_again.proofs.PathLaws.{is_over, is_above, over_over, over_cases, above_over, not_so, bytes_itself, listed_cons, listed_first, listed_more}
 use Rattle.kb_again.proofs.PlaceLaws.{entry_name, build_parts}
@@ -60,7 +61,8 @@ each_settled P (c ∷ runs) front soft all =
     subst (λ l. AllByRecursion (IsUnsettled P l) (settled (run_areas runs) (filter (λ a. not (is_settled_by c.area a)) soft)))
     (append_assoc front (c ∷ []) runs)
     (each_settled P runs (front ++ c ∷ []) (filter (λ a. not (is_settled_by c.area a)) soft)
-    (wider (filter (λ a. not (is_settled_by c.area a)) soft) (unsettled (IsUnsettled P front) (λ a. not (is_settled_by c.area a)) soft all)))
+    (wider (filter (λ a. not (is_settled_by c.area a)) soft)
+    (unsettled (IsUnsettled P front) (λ a. not (is_settled_by c.area a)) soft all)))
   where
     one_more : (a : Area) → (d : Request) → IsUnsettled P front a → not (is_settled_by c.area a) ≡ true → IsMember d (front ++ c ∷ [])
         → is_settled_by d.area a ≡ false
@@ -95,7 +97,8 @@ module _ (r : Roots) (s : Lists) (roots : AreRoots r) (valid : IsValidUnder r s)
                   (subst (λ y. is_above r.modules y ≡ true) (same_front d f.0 m f.1 (sym same ∙ f.3)) in_modules)
               | inr below ↦
                   not_open r (child d n)
-                  (or_left _ _ (inside (private_places r) w.0 (child d n) w.1 (over_over w.0 d (child d n) (above_child w.0 d m below) (above_over d (child d n) (child_above d n))))) open_at
+                  (or_left _ _ (inside (private_places r) w.0 (child d n) w.1
+                  (over_over w.0 d (child d n) (above_child w.0 d m below) (above_over d (child d n) (child_above d n))))) open_at
             ]
         | inr build ↦
             let w = build_parts r (child d m) build in
@@ -121,18 +124,22 @@ module _ (r : Roots) (s : Lists) (roots : AreRoots r) (valid : IsValidUnder r s)
         let w = named (child r.modules index.0) index_names (child d n) (ap (λ a. reaches a (child d n)) (sym index.1.area) ∙ held) in
         let d_is : d ≡ child r.modules index.0 = same_front d (child r.modules index.0) n w.0 w.2 in
         ap (λ a. is_settled_by a (Names d ns)) index.1.area
-        ∙ and_from _ _ (ap (λ x. same_path x d) (sym d_is) ∙ same_path-refl d) (all_named (λ m. list_any (bytes_eq m) index_names) ns (λ m member.
+        ∙ and_from _ _ (ap (λ x. same_path x d) (sym d_is) ∙ same_path-refl d)
+        (all_named (λ m. list_any (bytes_eq m) index_names) ns (λ m member.
         let m_held : reaches (Names d ns) (child d m) ≡ true = held_name d m ns member in
         let m_open = beside_open d n m x open_at in
         let in_modules : is_over r.modules (child d m) ≡ true =
         over_over r.modules d (child d m)
-        (subst (λ y. is_over r.modules y ≡ true) (sym d_is) (above_over r.modules (child r.modules index.0) (child_above r.modules index.0))) (above_over d (child d m) (child_above d m)) in
+        (subst (λ y. is_over r.modules y ≡ true) (sym d_is)
+        (above_over r.modules (child r.modules index.0) (child_above r.modules index.0))) (above_over d (child d m) (child_above d m)) in
         let m_written : is_under_one (written_roots r) (child d m) ≡ true =
         inside (written_roots r) r.modules (child d m)
-        (listed_more r.modules r.dkms (r.src ∷ r.modules ∷ r.boot ∷ []) (listed_more r.modules r.src (r.modules ∷ r.boot ∷ []) (listed_first r.modules r.modules (r.boot ∷ []) refl))) in_modules in
+        (listed_more r.modules r.dkms (r.src ∷ r.modules ∷ r.boot ∷ [])
+        (listed_more r.modules r.src (r.modules ∷ r.boot ∷ []) (listed_first r.modules r.modules (r.boot ∷ []) refl))) in_modules in
         let no_initrd : is_initrd r (child d m) ≡ false =
         false_from_ne_true _
-        (λ is. not_in_both r roots r.modules r.boot (is_root r root_name.Modules) (is_root r root_name.Boot) (modules_boot r roots) (child d m) in_modules (initrd_in_boot r (child d m) is)) in
+        (λ is. not_in_both r roots r.modules r.boot (is_root r root_name.Modules) (is_root r root_name.Boot) (modules_boot r roots)
+        (child d m) in_modules (initrd_in_boot r (child d m) is)) in
         let run =
         fit_index r s roots valid (Names d ns) fit (child d m) m_held
         (counted r s roots valid (Names d ns) (child d m) m_written m_open (inr no_initrd)) in
@@ -161,7 +168,8 @@ module _ (r : Roots) (s : Lists) (roots : AreRoots r) (valid : IsValidUnder r s)
         | inl none ↦ subst (λ a. is_settled_by a a ≡ true) (sym none) refl
         | inr index ↦
             subst (λ a. is_settled_by a a ≡ true) (sym index.1.area)
-            (and_from _ _ (same_path-refl (child r.modules index.0)) (all_named (λ m. list_any (bytes_eq m) index_names) index_names (λ m h. in_names m index_names h)))
+            (and_from _ _ (same_path-refl (child r.modules index.0))
+            (all_named (λ m. list_any (bytes_eq m) index_names) index_names (λ m h. in_names m index_names h)))
       ]
 
       own_settled : (c : Request) → IsMember c s.runs → is_settled_by c.area a ≡ true → ⊥
@@ -179,12 +187,15 @@ module _ (r : Roots) (s : Lists) (roots : AreRoots r) (valid : IsValidUnder r s)
                 let below = above_over q entry (child_above q (codes "x")) in
                 let deeper_run =
                 fit_index r s roots valid a u.fits entry (in_under a q entry other held below)
-                (counted r s roots valid a entry (written_more r s roots valid q entry parts.0 below) (entry_open r s roots valid q (codes "x") x inner.0) (inl other)) in
+                (counted r s roots valid a entry (written_more r s roots valid q entry parts.0 below)
+                (entry_open r s roots valid q (codes "x") x inner.0) (inl other)) in
                 no_deeper r s roots valid q (codes "x") x (run_index r s roots valid deeper_run.0 deeper_run.1 entry deeper_run.2)
             | inl list ↦
                 let w = list_parts a q list held in
                 own_settled run.0 run.1
-                (ap (is_settled_by run.0.area) w.3 ∙ settles_list w.0 w.1 w.2 (subst (IsFit r s.runs) w.3 u.fits) run.0 run.1 (ap (reaches run.0.area) (sym w.4) ∙ run.2) (ap (is_under_one (written_roots r)) (sym w.4) ∙ parts.0) (ap (is_open r) (sym w.4) ∙ inner.0))
+                (ap (is_settled_by run.0.area) w.3
+                ∙ settles_list w.0 w.1 w.2 (subst (IsFit r s.runs) w.3 u.fits) run.0 run.1 (ap (reaches run.0.area) (sym w.4) ∙ run.2)
+                (ap (is_under_one (written_roots r)) (sym w.4) ∙ parts.0) (ap (is_open r) (sym w.4) ∙ inner.0))
           ]
 
 pub all_of : (P Q : Area → Type 0) → ((a : Area) → P a → Q a) → (soft : List Area) → AllByRecursion P soft → AllByRecursion Q soft
@@ -195,7 +206,8 @@ pub settled_spares : (r : Roots) (s : Lists) (soft : List Area) → AreRoots r �
     → AllByRecursion (IsSparing r []) (settled (run_areas s.runs) soft)
 settled_spares r s soft roots valid fit =
     all_of (IsUnsettled (IsFit r s.runs) s.runs) (IsSparing r []) (spares_nothing r s roots valid) (settled (run_areas s.runs) soft)
-    (each_settled (IsFit r s.runs) s.runs [] soft (all_of (IsFit r s.runs) (IsUnsettled (IsFit r s.runs) []) (λ a fits. record { fits = fits; apart = λ c h. absurd h }) soft fit))
+    (each_settled (IsFit r s.runs) s.runs [] soft
+    (all_of (IsFit r s.runs) (IsUnsettled (IsFit r s.runs) []) (λ a fits. record { fits = fits; apart = λ c h. absurd h }) soft fit))
 
 -- ---- the areas of the runs are sparing
 
@@ -205,7 +217,8 @@ kept_out_untouched r q h =
     inside (untouched r) w.0 q (elim (listed_cons w.0 (intent_path r) (staging_paths r) w.1) [
       | inl is ↦ listed_first w.0 (intent_path r) (new_intent_path r ∷ staging_paths r) is
       | inr staged ↦
-          listed_more w.0 (intent_path r) (new_intent_path r ∷ staging_paths r) (listed_more w.0 (new_intent_path r) (staging_paths r) staged)
+          listed_more w.0 (intent_path r) (new_intent_path r ∷ staging_paths r)
+          (listed_more w.0 (new_intent_path r) (staging_paths r) staged)
     ]) w.2
 
 any_run : (q : Path) (cs : List Request) (c : Request) → IsMember c cs → reaches c.area q ≡ true

@@ -17,7 +17,8 @@ use Rattle.kb_changes.specs.Valid.{written_roots, is_initrd, is_kept_out, kept_o
 use Rattle.kb_changes.specs.declared.change.RootName.TheVariants as root_name
 use Rattle.kb_again.specs.Sparing.{reaches, is_list_of_names, counts}
 use Rattle.kb_again.proofs.Ends.{is_under_one, IsMember}
-use Rattle.kb_again.proofs.Facts.{all_roots, AreRoots, untouched, staging_paths, build_at, is_open, is_steady, is_beside, StagedPut, staged_at, Lists, changed_paths, IsValidUnder}
+use Rattle.kb_again.specs.Within.{staging_paths}
+use Rattle.kb_again.proofs.Facts.{all_roots, AreRoots, untouched, build_at, is_open, is_kept, is_beside, StagedPut, staged_at, Lists, changed_paths, IsValidUnder}
 use Rattle.kb_again.proofs.FrontLaws.{listed_left}
 use Rattle.kb_again.proofs.KeptLaws.{one_above}
 use Rattle.kb_again.proofs.PathLaws.{is_over, is_above, is_listed, over_over, over_itself, over_cases, above_over, above_over_above, not_back, not_so, listed_first, listed_more}
@@ -82,7 +83,10 @@ root_open r roots x is = open_from r x (λ priv. elim (or_cases _ _ priv) [
       let w = build_parts r x build in
       let one = child r.dkms w.0 in
       disjoint_below (all_roots r) roots.disjoint r.dkms x (is_root r root_name.Dkms) is
-      (above_over_above r.dkms one x (child_above r.dkms w.0) (over_over one (build_at r w.0 w.1) x (over_over one (child one w.1) (build_at r w.0 w.1) (above_over one (child one w.1) (child_above one w.1)) (above_over (child one w.1) (build_at r w.0 w.1) (child_above (child one w.1) (codes "build")))) w.3))
+      (above_over_above r.dkms one x (child_above r.dkms w.0)
+      (over_over one (build_at r w.0 w.1) x
+      (over_over one (child one w.1) (build_at r w.0 w.1) (above_over one (child one w.1) (child_above one w.1))
+      (above_over (child one w.1) (build_at r w.0 w.1) (child_above (child one w.1) (codes "build")))) w.3))
 ])
 
 -- nothing is at or under two roots
@@ -99,7 +103,9 @@ build_in_dkms r x m v under =
     let one = child r.dkms m in
     let two = child one v in
     over_over r.dkms (build_at r m v) x
-    (over_over r.dkms two (build_at r m v) (over_over r.dkms one two (above_over r.dkms one (child_above r.dkms m)) (above_over one two (child_above one v))) (above_over two (build_at r m v) (child_above two (codes "build")))) under
+    (over_over r.dkms two (build_at r m v)
+    (over_over r.dkms one two (above_over r.dkms one (child_above r.dkms m)) (above_over one two (child_above one v)))
+    (above_over two (build_at r m v) (child_above two (codes "build")))) under
 
 -- no entry of the boot root with another name is above that of an initrd
 initrd_not_under : (r : Roots) (q : Path) (m : List ℕ) → starts_with nat_eq m (codes "initrd.img-") ≡ false → is_initrd r q ≡ true
@@ -187,7 +193,8 @@ module _ (r : Roots) (s : Lists) (roots : AreRoots r) (valid : IsValidUnder r s)
   index_below : (q : Path) → IsIndex q → is_above r.modules q ≡ true
   index_below q x =
       subst (λ y. is_above r.modules y ≡ true) (sym x.is)
-      (above_over_above r.modules (child r.modules x.kernel) (child (child r.modules x.kernel) x.name) (child_above r.modules x.kernel) (above_over (child r.modules x.kernel) (child (child r.modules x.kernel) x.name) (child_above (child r.modules x.kernel) x.name)))
+      (above_over_above r.modules (child r.modules x.kernel) (child (child r.modules x.kernel) x.name) (child_above r.modules x.kernel)
+      (above_over (child r.modules x.kernel) (child (child r.modules x.kernel) x.name) (child_above (child r.modules x.kernel) x.name)))
 
   deeper : (p : Path) (n : List ℕ) → length (child p n) ≡ length p + 1
   deeper p n = length-append p (n ∷ [])
@@ -236,16 +243,17 @@ module _ (r : Roots) (s : Lists) (roots : AreRoots r) (valid : IsValidUnder r s)
   pub written_more : (q x : Path) → is_under_one (written_roots r) q ≡ true → is_over q x ≡ true → is_under_one (written_roots r) x ≡ true
   written_more q x h under = one_above (written_roots r) q x under h
 
-  steady_soft : (q : Path) (was left : Option Node) → is_steady r q ≡ true → Lets (IsFit r s.runs) q was left
+  kept_soft : (q : Path) (was left : Option Node) → is_kept r q ≡ true → Lets (IsFit r s.runs) q was left
       → (is_listed q s.drops ≡ true) × (is_dir was ≡ false) × (is_dir left ≡ false)
-  steady_soft q was left steady l =
-      let parts = and_parts _ _ steady in
+  kept_soft q was left kept l =
+      let parts = and_parts _ _ kept in
       let inner = and_parts _ _ parts.1 in
       let held = lets-in l.area q was left l.lets in
       let run = fit_index l.area l.fits q held (counted l.area q parts.0 inner.0 (inr (not_so _ inner.1))) in
       elim (cases_Bool (is_list_of_names l.area)) [
         | inl list ↦
-            let files = lets-files l.area q was left list l.lets in (area_dropped r s roots valid run.0 run.1 q run.2, files.was, files.left)
+            let files = lets-files l.area q was left list l.lets in
+            (area_dropped r s roots valid run.0 run.1 q run.2, files.was, files.left)
         | inr other ↦
             let x = run_index run.0 run.1 q run.2 in
             let entry = child q (codes "x") in
@@ -266,15 +274,21 @@ module _ (r : Roots) (s : Lists) (roots : AreRoots r) (valid : IsValidUnder r s)
               let boot_in = initrd_in_boot r q initrd in
               let run =
               fit_index l.area l.fits q held
-              (counted l.area q (inside (written_roots r) r.boot q (listed_more r.boot r.dkms (r.src ∷ r.modules ∷ r.boot ∷ []) (listed_more r.boot r.src (r.modules ∷ r.boot ∷ []) (listed_more r.boot r.modules (r.boot ∷ []) (listed_first r.boot r.boot [] refl)))) boot_in) (initrd_open r roots q initrd) (inl other)) in
-              absurd (not_in_both r roots r.modules r.boot (is_root r root_name.Modules) (is_root r root_name.Boot) (modules_boot r roots) q (above_over r.modules q (index_below q (run_index run.0 run.1 q run.2))) boot_in)
+              (counted l.area q (inside (written_roots r) r.boot q
+              (listed_more r.boot r.dkms (r.src ∷ r.modules ∷ r.boot ∷ [])
+              (listed_more r.boot r.src (r.modules ∷ r.boot ∷ [])
+              (listed_more r.boot r.modules (r.boot ∷ [])
+              (listed_first r.boot r.boot [] refl)))) boot_in) (initrd_open r roots q initrd) (inl other)) in
+              absurd (not_in_both r roots r.modules r.boot (is_root r root_name.Modules) (is_root r root_name.Boot) (modules_boot r roots) q
+              (above_over r.modules q (index_below q (run_index run.0 run.1 q run.2))) boot_in)
           | inr above ↦
               let w = written_above (written_roots r) q above in
               let is = written_is_root r w.0 w.1 in
               let run =
               fit_index l.area l.fits w.0 (in_under l.area q w.0 other held (above_over q w.0 w.2))
               (counted l.area w.0 (inside (written_roots r) w.0 w.0 w.1 (over_itself w.0)) (root_open r roots w.0 is) (inl other)) in
-              absurd (disjoint_below (all_roots r) roots.disjoint r.modules w.0 (is_root r root_name.Modules) is (index_below w.0 (run_index run.0 run.1 w.0 run.2)))
+              absurd (disjoint_below (all_roots r) roots.disjoint r.modules w.0 (is_root r root_name.Modules) is
+              (index_below w.0 (run_index run.0 run.1 w.0 run.2)))
         ]
       ]
     where
@@ -292,7 +306,8 @@ module _ (r : Roots) (s : Lists) (roots : AreRoots r) (valid : IsValidUnder r s)
   out_same q was left out unchanged l = elim l.fits [
     | inl spares ↦ true≢false (sym out ∙ spares.kept_out q (lets-in l.area q was left l.lets))
     | inr own ↦
-        unchanged (listed_left q s.drops _ (area_dropped r s roots valid own.0 own.1 q (ap (λ b. reaches b q) (sym own.2) ∙ lets-in l.area q was left l.lets)))
+        unchanged (listed_left q s.drops _
+        (area_dropped r s roots valid own.0 own.1 q (ap (λ b. reaches b q) (sym own.2) ∙ lets-in l.area q was left l.lets)))
   ]
 
   staged_out : (c : StagedPut) → is_kept_out r (staged_at r c) ≡ true
@@ -303,22 +318,36 @@ module _ (r : Roots) (s : Lists) (roots : AreRoots r) (valid : IsValidUnder r s)
 pub soft_behind : (r : Roots) (s : Lists) (soft : List Area) (v u : Tree) → AreRoots r → IsValidUnder r s
     → AllByRecursion (IsFit r s.runs) soft → IsLeftIn soft v u → IsSoftBehind r s v u
 soft_behind r s soft v u roots valid fit left = record {
-  steady =
-      λ q steady. elim
-      (left q) [ inl same ↦ inl same | inr lets ↦ inr (steady_soft r s roots valid q (node_at v q) (node_at u q) steady (some_area (IsFit r s.runs) soft q (node_at v q) (node_at u q) fit lets)) ];
+  kept =
+      λ q kept. elim
+      (left q) [
+        | inl same ↦ inl same
+        | inr lets ↦ inr
+            (kept_soft r s roots valid q (node_at v q) (node_at u q) kept
+            (some_area (IsFit r s.runs) soft q (node_at v q) (node_at u q) fit lets))
+      ];
   dirs =
       λ q beside. elim
-      (left q) [ inl same ↦ ap is_dir (sym same) | inr lets ↦ beside_soft r s roots valid q (node_at v q) (node_at u q) beside (some_area (IsFit r s.runs) soft q (node_at v q) (node_at u q) fit lets) ];
+      (left q) [
+        | inl same ↦ ap is_dir (sym same)
+        | inr lets ↦ beside_soft r s roots valid q (node_at v q) (node_at u q) beside
+            (some_area (IsFit r s.runs) soft q (node_at v q) (node_at u q) fit lets)
+      ];
   staged = λ c h. elim (left (staged_at r c)) [
     | inl same ↦ same
     | inr lets ↦
-        absurd (out_same r s roots valid (staged_at r c) _ _ (staged_out r s roots valid c) (λ changed. not_staged r s roots valid (staged_at r c) c changed (staged_under r s roots valid c)) (some_area (IsFit r s.runs) soft (staged_at r c) _ _ fit lets))
+        absurd (out_same r s roots valid (staged_at r c) _ _ (staged_out r s roots valid c)
+        (λ changed. not_staged r s roots valid (staged_at r c) c changed (staged_under r s roots valid c))
+        (some_area (IsFit r s.runs) soft (staged_at r c) _ _ fit lets))
   ];
   journal = elim (left (intent_path r)) [
     | inl same ↦ same
     | inr lets ↦
-        absurd (out_same r s roots valid (intent_path r) _ _ (inside (kept_out_paths r) (intent_path r) (intent_path r) (at_0 (intent_path r) (staging_paths r)) (over_itself (intent_path r)))
-        (λ changed. valid.not_inside (intent_path r) changed (inside (untouched r) (intent_path r) (intent_path r) (at_0 (intent_path r) (new_intent_path r ∷ staging_paths r)) (over_itself (intent_path r))))
+        absurd (out_same r s roots valid (intent_path r) _ _
+        (inside (kept_out_paths r) (intent_path r) (intent_path r) (at_0 (intent_path r) (staging_paths r)) (over_itself (intent_path r)))
+        (λ changed. valid.not_inside (intent_path r) changed
+        (inside (untouched r) (intent_path r) (intent_path r) (at_0 (intent_path r) (new_intent_path r ∷ staging_paths r))
+        (over_itself (intent_path r))))
         (some_area (IsFit r s.runs) soft (intent_path r) _ _ fit lets))
   ];
 }

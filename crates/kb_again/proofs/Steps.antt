@@ -18,10 +18,10 @@ use Rattle.kb_changes.specs.declared.change.Change.TheVariants as change
 use Rattle.kb_again.specs.Sparing.{reaches}
 use Rattle.kb_again.proofs.Standing.{Between}
 use Rattle.kb_again.proofs.Ends.{in_turn, IsMember, wipe_at}
-use Rattle.kb_again.proofs.Parts.{IsPart, done}
+use Rattle.kb_again.proofs.Parts.{IsPart, groups_done}
 use Rattle.kb_again.proofs.Flat.{Act, to_drop, to_wipe, to_drop_dir, to_make, to_put, do_act, acts_of}
 use Rattle.kb_again.proofs.Kept.{SameDirs, IsWhole, IsSoftlyOn}
-use Rattle.kb_again.proofs.Facts.{StagedPut, Lists, staged_at, groups_of, is_steady, is_beside}
+use Rattle.kb_again.proofs.Facts.{StagedPut, Lists, staged_at, groups_of, is_kept, is_beside}
 
 -- ---- what a child does
 
@@ -74,7 +74,7 @@ steps_of r s = map act (acts_of (groups_of r s)) ++ map run s.runs
 
 -- the tree after all changes and some of the runs, and after all
 abbrev pub after_runs : Script → Roots → Lists → List Request → Tree → Tree
-after_runs f r s cs t = in_turn (run_request f r) cs (done (groups_of r s) t)
+after_runs f r s cs t = in_turn (run_request f r) cs (groups_done (groups_of r s) t)
 
 abbrev pub after_all : Script → Roots → Lists → Tree → Tree
 after_all f r s t = after_runs f r s s.runs t
@@ -104,9 +104,10 @@ IsCut (to_put staged target) t v = (v ≡ t) ⊎ (v ≡ do_act (to_put staged ta
 -- What may be left, whatever stands at private paths that aren't staged: a part of the groups is done; or all are and some
 -- runs, and staged files may be gone. At paths that are dropped there may be any files and links.
 pub data IsBehind (f : Script) (r : Roots) (s : Lists) (t u : Tree) : Type 0 where
-  among_groups : (v : Tree) → IsPart (groups_of r s) t v → IsWhole v → IsSoftlyOn (is_steady r) s.drops v u → SameDirs (is_beside r) v u
+  among_groups : (v : Tree) → IsPart (groups_of r s) t v → IsWhole v → IsSoftlyOn (is_kept r) s.drops v u → SameDirs (is_beside r) v u
       → ((c : StagedPut) → IsMember c s.puts → node_at u (staged_at r c) ≡ node_at v (staged_at r c)) → IsBehind f r s t u
   among_runs : (front back : List Request) → front ++ back ≡ s.runs
-      → IsSoftlyOn (is_steady r) s.drops (after_runs f r s front t) u → SameDirs (is_beside r) (after_runs f r s front t) u
-      → ((c : StagedPut) → IsMember c s.puts → (node_at u (staged_at r c) ≡ node_at (after_runs f r s front t) (staged_at r c)) ⊎ (node_at u (staged_at r c) ≡ None))
+      → IsSoftlyOn (is_kept r) s.drops (after_runs f r s front t) u → SameDirs (is_beside r) (after_runs f r s front t) u
+      → ((c : StagedPut) → IsMember c s.puts
+      → (node_at u (staged_at r c) ≡ node_at (after_runs f r s front t) (staged_at r c)) ⊎ (node_at u (staged_at r c) ≡ None))
       → IsBehind f r s t u

@@ -14,7 +14,7 @@ use Rattle.kb_again.proofs.Facts.{untouched, AreRoots, is_open, staged_at, Stage
 use Rattle.kb_again.proofs.FrontLaws.{listed_left}
 use Rattle.kb_again.proofs.Kept.{SameOn, SameDirs, IsWhole, IsHidden}
 use Rattle.kb_again.proofs.KeptLaws.{kept_same, one_above, parent_under}
-use Rattle.kb_again.proofs.Parts.{done}
+use Rattle.kb_again.proofs.Parts.{groups_done}
 use Rattle.kb_again.proofs.PathLaws.{is_over, is_above, is_listed, over_itself, over_cases, above_over}
 use Rattle.kb_again.proofs.RootLaws.{above_child, over_or_above, inside, inside_some, private_entry, not_at_root, not_open, staging_kept_out, untouched_private}
 use Rattle.kb_again.proofs.RunLaws.{base_open, seen_open}
@@ -78,7 +78,9 @@ module _ (r : Roots) (s : Lists) (roots : AreRoots r) (valid : IsValidUnder r s)
     staged = λ m h shown.
         let w = move_from r s roots valid s.puts m h in
         not_shown r m.0
-        (wiped_staged w.0 m.0 (subst (λ k. is_over (staging_path (root_path r w.0.root)) k ≡ true) (sym (ap (λ k. k.0) w.2)) (staged_under r s roots valid w.0))) shown;
+        (wiped_staged w.0 m.0
+        (subst (λ k. is_over (staging_path (root_path r w.0.root)) k ≡ true) (sym (ap (λ k. k.0) w.2))
+        (staged_under r s roots valid w.0))) shown;
     within = shown_within;
   }
     where
@@ -96,8 +98,10 @@ module _ (r : Roots) (s : Lists) (roots : AreRoots r) (valid : IsValidUnder r s)
         elim (cases_Bool (is_dir (node_at t c.dir))) [
           | inl dir ↦
               ap (λ b. node_at (cond b (in_turn (effect_in c.area) (writes f c (view_of r c t)) t) t) q) dir
-              ∙ effects_same (is_plain r) nowhere (shown_up r) c.area (writes f c (view_of r c t)) t u same (λ x no. absurd (true≢false (sym no))) q is
-              ∙ ap (λ w. node_at (in_turn (effect_in c.area) (writes f c w) u) q) (view_alike (is_plain r) r c t u (λ x seen. open_shown r x (seen_open r s roots valid c in_it x seen)) same)
+              ∙ effects_same (is_plain r) nowhere (shown_up r) c.area (writes f c (view_of r c t)) t u same
+              (λ x no. absurd (true≢false (sym no))) q is
+              ∙ ap (λ w. node_at (in_turn (effect_in c.area) (writes f c w) u) q)
+              (view_alike (is_plain r) r c t u (λ x seen. open_shown r x (seen_open r s roots valid c in_it x seen)) same)
               ∙ sym (ap (λ b. node_at (cond b (in_turn (effect_in c.area) (writes f c (view_of r c u)) u) u) q) (sym dirs ∙ dir))
           | inr isnt ↦
               ap (λ b. node_at (cond b (in_turn (effect_in c.area) (writes f c (view_of r c t)) t) t) q) isnt
@@ -119,7 +123,8 @@ unseen f r s t u roots valid whole whole_u same staged =
     let groups =
     kept_same (is_plain r) nowhere (groups_of r s) t u (groups_valid r s roots valid) (shown_hidden r s roots valid) whole whole_u
     (λ q is. inl (sym (same q is))) (λ q no. absurd (true≢false (sym no)))
-    (λ m h is. let w = move_from r s roots valid s.puts m h in inl (subst (λ k. node_at u k.0 ≡ node_at t k.0) (sym w.2) (staged w.0 w.1))) in
+    (λ m h is. let w = move_from r s roots valid s.puts m h in inl
+    (subst (λ k. node_at u k.0 ≡ node_at t k.0) (sym w.2) (staged w.0 w.1))) in
     runs_alike r s roots valid f s.runs _ _ (λ c h. h) groups.0
 
 -- ---- what the runs answer
@@ -173,15 +178,17 @@ module _ (r : Roots) (s : Lists) (roots : AreRoots r) (valid : IsValidUnder r s)
       let rest =
       replies_alike f cs (run_request f r c t) (run_request f r c u) (λ d h. all d (inr h))
       (next_alike f c t u (all c (inl refl)) same) in
-      let dirs = dir_alike t u same c.dir in
-      ((λ i. cond (dirs i) ((seen_alike c f t u (all c (inl refl)) same i).reply ∷ rest.0 i) (rest.0 i)), (λ i. cond (dirs i) (c ∷ rest.1 i) (rest.1 i)))
+      let dirs = dir_alike t u same c.dir in (
+        (λ i. cond (dirs i) ((seen_alike c f t u (all c (inl refl)) same i).reply ∷ rest.0 i) (rest.0 i)),
+        (λ i. cond (dirs i) (c ∷ rest.1 i) (rest.1 i)),
+      )
 
 -- all the same, and what the runs answer
 pub record AreSeenAlike (f : Script) (r : Roots) (s : Lists) (t u : Tree) : Type 0 where
   pub same : SameOn (is_plain r) (after_all f r s t) (after_all f r s u)
   pub dirs : SameDirs (λ q. not (is_plain r q)) (after_all f r s t) (after_all f r s u)
-  pub replies : run_replies f r s.runs (done (groups_of r s) t) ≡ run_replies f r s.runs (done (groups_of r s) u)
-  pub made : runs_made f r s.runs (done (groups_of r s) t) ≡ runs_made f r s.runs (done (groups_of r s) u)
+  pub replies : run_replies f r s.runs (groups_done (groups_of r s) t) ≡ run_replies f r s.runs (groups_done (groups_of r s) u)
+  pub made : runs_made f r s.runs (groups_done (groups_of r s) t) ≡ runs_made f r s.runs (groups_done (groups_of r s) u)
 
 pub seen_alike_all : (f : Script) (r : Roots) (s : Lists) (t u : Tree) → AreRoots r → IsValidUnder r s → IsWhole t → IsWhole u
     → SameOn (is_plain r) t u → SameDirs (λ q. not (is_plain r q)) t u
@@ -190,12 +197,13 @@ seen_alike_all f r s t u roots valid whole whole_u same dirs staged =
     let groups =
     kept_same (is_plain r) (out r s roots valid) (groups_of r s) t u (groups_valid r s roots valid)
     (all_hidden r s roots valid) whole whole_u (λ q is. inl (sym (same q is))) dirs
-    (λ m h is. let w = move_from r s roots valid s.puts m h in inl (subst (λ k. node_at u k.0 ≡ node_at t k.0) (sym w.2) (staged w.0 w.1))) in
+    (λ m h is. let w = move_from r s roots valid s.puts m h in inl
+    (subst (λ k. node_at u k.0 ≡ node_at t k.0) (sym w.2) (staged w.0 w.1))) in
     let all = replies_alike r s roots valid f s.runs _ _ (λ c h. h) groups in
     record {
       same = unseen f r s t u roots valid whole whole_u same staged;
       dirs =
-          λ q is. runs_dirs f r s.runs (done (groups_of r s) t) q ∙ groups.1 q is ∙ sym (runs_dirs f r s.runs (done (groups_of r s) u) q);
+          λ q is. runs_dirs f r s.runs (groups_done (groups_of r s) t) q ∙ groups.1 q is ∙ sym (runs_dirs f r s.runs (groups_done (groups_of r s) u) q);
       replies = all.0;
       made = all.1;
     }

@@ -9,7 +9,7 @@ use Rattle.kb_changes.specs.Change.{root_path}
 use Rattle.kb_changes.specs.Valid.{written_roots, is_initrd}
 use Rattle.kb_changes.specs.declared.change.RootName.TheVariants as root_name
 use Rattle.kb_again.proofs.Ends.{Move, is_under_one, IsMember, MovesApart}
-use Rattle.kb_again.proofs.Facts.{all_roots, AreRoots, untouched, build_at, is_open, is_steady, is_beside, StagedPut, Lists, staged_at, move_of, groups_of, targets, changed_paths, AreDifferent, IsValidUnder}
+use Rattle.kb_again.proofs.Facts.{all_roots, AreRoots, untouched, build_at, is_open, is_kept, is_beside, StagedPut, Lists, staged_at, move_of, groups_of, targets, changed_paths, AreDifferent, IsValidUnder}
 use Rattle.kb_again.proofs.FrontLaws.{listed_left, listed_right}
 use Rattle.kb_again.proofs.Kept.{IsHidden}
 use Rattle.kb_again.proofs.KeptLaws.{one_above, parent_under}
@@ -30,17 +30,21 @@ module _ (r : Roots) (s : Lists) (roots : AreRoots r) (valid : IsValidUnder r s)
   pub in_first_changed : (q : Path) → is_listed q s.first ≡ true → is_listed q (changed_paths s) ≡ true
   in_first_changed q h =
       listed_right q s.drops (s.wipes ++ (s.first ++ (s.dirs ++ ((targets s) ++ s.second))))
-      (listed_right q s.wipes (s.first ++ (s.dirs ++ ((targets s) ++ s.second))) (listed_left q s.first (s.dirs ++ ((targets s) ++ s.second)) h))
+      (listed_right q s.wipes (s.first ++ (s.dirs ++ ((targets s) ++ s.second)))
+      (listed_left q s.first (s.dirs ++ ((targets s) ++ s.second)) h))
 
   pub in_dirs_changed : (q : Path) → is_listed q s.dirs ≡ true → is_listed q (changed_paths s) ≡ true
   in_dirs_changed q h =
       listed_right q s.drops (s.wipes ++ (s.first ++ (s.dirs ++ ((targets s) ++ s.second))))
-      (listed_right q s.wipes (s.first ++ (s.dirs ++ ((targets s) ++ s.second))) (listed_right q s.first (s.dirs ++ ((targets s) ++ s.second)) (listed_left q s.dirs ((targets s) ++ s.second) h)))
+      (listed_right q s.wipes (s.first ++ (s.dirs ++ ((targets s) ++ s.second)))
+      (listed_right q s.first (s.dirs ++ ((targets s) ++ s.second)) (listed_left q s.dirs ((targets s) ++ s.second) h)))
 
   pub in_second_changed : (q : Path) → is_listed q s.second ≡ true → is_listed q (changed_paths s) ≡ true
   in_second_changed q h =
       listed_right q s.drops (s.wipes ++ (s.first ++ (s.dirs ++ ((targets s) ++ s.second))))
-      (listed_right q s.wipes (s.first ++ (s.dirs ++ ((targets s) ++ s.second))) (listed_right q s.first (s.dirs ++ ((targets s) ++ s.second)) (listed_right q s.dirs ((targets s) ++ s.second) (listed_right q (targets s) s.second h))))
+      (listed_right q s.wipes (s.first ++ (s.dirs ++ ((targets s) ++ s.second)))
+      (listed_right q s.first (s.dirs ++ ((targets s) ++ s.second))
+      (listed_right q s.dirs ((targets s) ++ s.second) (listed_right q (targets s) s.second h))))
 
   has_target : (cs : List StagedPut) (c : StagedPut) → IsMember c cs → is_listed c.target (map (λ d. d.target) cs) ≡ true
   has_target [] c h = absurd h
@@ -50,7 +54,9 @@ module _ (r : Roots) (s : Lists) (roots : AreRoots r) (valid : IsValidUnder r s)
   pub target_changed : (c : StagedPut) → IsMember c s.puts → is_listed c.target (changed_paths s) ≡ true
   target_changed c h =
       listed_right c.target s.drops (s.wipes ++ (s.first ++ (s.dirs ++ ((targets s) ++ s.second))))
-      (listed_right c.target s.wipes (s.first ++ (s.dirs ++ ((targets s) ++ s.second))) (listed_right c.target s.first (s.dirs ++ ((targets s) ++ s.second)) (listed_right c.target s.dirs ((targets s) ++ s.second) (listed_left c.target (targets s) s.second (has_target s.puts c h)))))
+      (listed_right c.target s.wipes (s.first ++ (s.dirs ++ ((targets s) ++ s.second)))
+      (listed_right c.target s.first (s.dirs ++ ((targets s) ++ s.second))
+      (listed_right c.target s.dirs ((targets s) ++ s.second) (listed_left c.target (targets s) s.second (has_target s.puts c h)))))
 
   not_root : (ps : List Path) → ((q : Path) → is_listed q ps ≡ true → is_listed q (changed_paths s) ≡ true) → is_listed [] ps ≡ false
   not_root ps changed = false_from_ne_true _ (λ h. let w = below_root [] (changed [] h) in none_above_root w.0 w.2)
@@ -107,10 +113,12 @@ module _ (r : Roots) (s : Lists) (roots : AreRoots r) (valid : IsValidUnder r s)
   not_above_staged c q changed under = elim (over_cases q (staged_at r c) under) [
     | inl same ↦ no_staged c q changed (sym same)
     | inr further ↦
-        elim (over_cases q (staging_path (root_path r c.root)) (above_child q (staging_path (root_path r c.root)) (decimal c.number) further)) [
+        elim (over_cases q (staging_path (root_path r c.root))
+        (above_child q (staging_path (root_path r c.root)) (decimal c.number) further)) [
           | inl same ↦
               not_staged q c changed
-              (subst (λ x. is_over (staging_path (root_path r c.root)) x ≡ true) (sym same) (over_itself (staging_path (root_path r c.root))))
+              (subst (λ x. is_over (staging_path (root_path r c.root)) x ≡ true) (sym same)
+              (over_itself (staging_path (root_path r c.root))))
           | inr above ↦
               not_at_root r roots q (root_path r c.root) (below_root q changed) (is_root r c.root)
               (above_child q (root_path r c.root) (codes ".kb-staged") above)
@@ -158,7 +166,9 @@ module _ (r : Roots) (s : Lists) (roots : AreRoots r) (valid : IsValidUnder r s)
                 | inl same ↦ absurd (q_private (subst (λ y. is_over at_build y ≡ true) (sym same) (over_itself at_build)))
                 | inr further ↦ elim (over_cases q version (above_child q version (codes "build") further)) [
                   | inl same ↦
-                      inl (inside s.wipes at_build x (valid.build_wiped w.0 w.1 w.2 (subst (λ y. (is_listed y s.first ≡ true) ⊎ (is_listed y s.second ≡ true)) same listed)) w.3)
+                      inl (inside s.wipes at_build x
+                      (valid.build_wiped w.0 w.1 w.2
+                      (subst (λ y. (is_listed y s.first ≡ true) ⊎ (is_listed y s.second ≡ true)) same listed)) w.3)
                   | inr above ↦
                       let q_up = above_child q (child r.dkms w.0) w.1 above in
                       elim (over_cases q (child r.dkms w.0) q_up) [
@@ -172,7 +182,17 @@ module _ (r : Roots) (s : Lists) (roots : AreRoots r) (valid : IsValidUnder r s)
                             | inl head ↦ no_private r roots q version below_root open_at (above_over q version above) head
                             | inr deeper ↦
                                 let z = build_parts r version deeper in
-                                omega (arith, length_over (build_at r z.0 z.1) version z.3, length_child (child (child r.dkms z.0) z.1) (codes "build"), length_child (child r.dkms z.0) z.1, length_child r.dkms z.0, length_child (child r.dkms w.0) w.1, length_child r.dkms w.0)
+                                omega (
+                                  arith,
+                                  length_over (build_at r z.0 z.1) version z.3,
+                                  length_child (child (child r.dkms z.0) z.1)
+                                      (codes "build"),
+                                  length_child (child r.dkms z.0) z.1,
+                                  length_child r.dkms z.0,
+                                  length_child
+                                      (child r.dkms w.0) w.1,
+                                  length_child r.dkms w.0,
+                                )
                           ]),
                         )
                       ]
@@ -187,19 +207,19 @@ module _ (r : Roots) (s : Lists) (roots : AreRoots r) (valid : IsValidUnder r s)
       not_at_root r roots q r.boot (below_root q changed) (is_root r root_name.Boot)
       (above_child q r.boot w.0 (subst (λ y. is_above q y ≡ true) w.1 below))
 
-  steady_from : (q : Path) → is_under_one (written_roots r) q ≡ true → is_open r q ≡ true → (is_initrd r q ≡ true → ⊥)
-      → is_steady r q ≡ true
-  steady_from q written open_at out = and_from _ _ written (and_from _ _ open_at (ap not (false_from_ne_true _ out)))
+  kept_from : (q : Path) → is_under_one (written_roots r) q ≡ true → is_open r q ≡ true → (is_initrd r q ≡ true → ⊥)
+      → is_kept r q ≡ true
+  kept_from q written open_at out = and_from _ _ written (and_from _ _ open_at (ap not (false_from_ne_true _ out)))
 
   written_down : (q x : Path) → is_under_one (written_roots r) q ≡ true → is_above q x ≡ true → is_under_one (written_roots r) x ≡ true
   written_down q x written below = one_above (written_roots r) q x (above_over q x below) written
 
-  steady_within : (q x : Path) → (is_listed q s.first ≡ true) ⊎ (is_listed q s.second ≡ true) → is_steady r q ≡ true → is_above q x ≡ true
-      → is_steady r x ≡ false
-      → (is_under_one s.wipes x ≡ true) ⊎ ((y : Path) × (is_above q y ≡ true) × (is_above y x ≡ true) × (is_steady r y ≡ true))
-  steady_within q x listed steady below hidden =
+  kept_within : (q x : Path) → (is_listed q s.first ≡ true) ⊎ (is_listed q s.second ≡ true) → is_kept r q ≡ true → is_above q x ≡ true
+      → is_kept r x ≡ false
+      → (is_under_one s.wipes x ≡ true) ⊎ ((y : Path) × (is_above q y ≡ true) × (is_above y x ≡ true) × (is_kept r y ≡ true))
+  kept_within q x listed kept below hidden =
       let changed = cleared_changed q listed in
-      let parts = and_parts _ _ steady in
+      let parts = and_parts _ _ kept in
       let written = written_down q x parts.0 below in
       elim (and_cases _ _ hidden) [
         | inl out ↦ absurd (true≢false (sym written ∙ out))
@@ -207,7 +227,7 @@ module _ (r : Roots) (s : Lists) (roots : AreRoots r) (valid : IsValidUnder r s)
           | inr initrd ↦ absurd (not_initrd q x changed below (not_false _ initrd))
           | inl private_one ↦ elim (groups_within q x listed (and_parts _ _ parts.1).0 below private_one) [
             | inl wipes ↦ inl wipes
-            | inr y ↦ inr (y.0, y.1, y.2, steady_from y.0 (written_down q y.0 parts.0 y.1) y.3 (not_initrd q y.0 changed y.1))
+            | inr y ↦ inr (y.0, y.1, y.2, kept_from y.0 (written_down q y.0 parts.0 y.1) y.3 (not_initrd q y.0 changed y.1))
           ]
         ]
       ]
@@ -226,10 +246,10 @@ module _ (r : Roots) (s : Lists) (roots : AreRoots r) (valid : IsValidUnder r s)
   spared_by q (inl h) is = not_beside q (cleared_changed q h) is
   spared_by q (inr h) is = not_beside q (in_dirs_changed q h) is
 
-  pub groups_hidden : IsHidden (is_steady r) (is_beside r) (groups_of r s)
+  pub groups_hidden : IsHidden (is_kept r) (is_beside r) (groups_of r s)
   groups_hidden = record {
-    above = λ q steady.
-        let parts = and_parts _ _ steady in
+    above = λ q kept.
+        let parts = and_parts _ _ kept in
         let up =
         open_from r (parent q) (λ priv. not_open r q (private_under r (parent q) q (parent_under q) priv) (and_parts _ _ parts.1).0) in
         elim (cases_Bool (is_initrd r (parent q))) [
@@ -240,9 +260,12 @@ module _ (r : Roots) (s : Lists) (roots : AreRoots r) (valid : IsValidUnder r s)
           ]
         ];
     spared = spared_by;
-    staged = λ m h steady.
+    staged = λ m h kept.
         let w = move_from s.puts m h in
         not_open r m.0
-        (or_left _ _ (untouched_private r m.0 (inside (untouched r) (staging_path (root_path r w.0.root)) m.0 (staging_kept_out r w.0.root) (subst (λ k. is_over (staging_path (root_path r w.0.root)) k ≡ true) (sym (ap (λ k. k.0) w.2)) (staged_under w.0))))) (and_parts _ _ (and_parts _ _ steady).1).0;
-    within = steady_within;
+        (or_left _ _ (untouched_private r m.0
+        (inside (untouched r) (staging_path (root_path r w.0.root)) m.0 (staging_kept_out r w.0.root)
+        (subst (λ k. is_over (staging_path (root_path r w.0.root)) k ≡ true) (sym (ap (λ k. k.0) w.2))
+        (staged_under w.0))))) (and_parts _ _ (and_parts _ _ kept).1).0;
+    within = kept_within;
   }

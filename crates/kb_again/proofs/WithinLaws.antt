@@ -67,11 +67,15 @@ wipe_within g front back p t v e between =
     subst (λ ps. Between (node_at s) (node_at (in_turn wipe_at ps s)) (node_at u)) w.2 (wipes_between w.0 (p ∷ w.1) s) in
     let new : Between (node_at s) (node_at (wiped_tree g t)) (node_at (wipe_at p u)) =
     subst (λ x. Between (node_at s) (node_at (wiped_tree g t)) (node_at x)) (in_turn-append wipe_at w.0 (p ∷ []) s)
-    (subst (λ ps. Between (node_at s) (node_at (in_turn wipe_at ps s)) (node_at (in_turn wipe_at (w.0 ++ p ∷ []) s))) whole (wipes_between (w.0 ++ p ∷ []) w.1 s)) in
+    (subst (λ ps. Between (node_at s) (node_at (in_turn wipe_at ps s)) (node_at (in_turn wipe_at (w.0 ++ p ∷ []) s))) whole
+    (wipes_between (w.0 ++ p ∷ []) w.1 s)) in
     in_wipes (λ q. elim (between q) [
       | inl was ↦ elim (old q) [ inl x ↦ inl (was ∙ ap (λ y. node_at y q) is ∙ x) | inr x ↦ inr (was ∙ ap (λ y. node_at y q) is ∙ x) ]
       | inr now ↦
-          elim (new q) [ inl x ↦ inl (now ∙ ap (λ y. node_at (wipe_at p y) q) is ∙ x) | inr x ↦ inr (now ∙ ap (λ y. node_at (wipe_at p y) q) is ∙ x) ]
+          elim (new q) [
+            | inl x ↦ inl (now ∙ ap (λ y. node_at (wipe_at p y) q) is ∙ x)
+            | inr x ↦ inr (now ∙ ap (λ y. node_at (wipe_at p y) q) is ∙ x)
+          ]
     ])
 
 whole_change : (g : Groups) (front back : List Act) (c : Act) (t v : Tree) → IsValid g → front ++ c ∷ back ≡ acts_of g

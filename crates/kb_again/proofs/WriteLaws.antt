@@ -23,7 +23,7 @@ use Rattle.kb_changes.specs.declared.change.Change.TheVariants.{Run}
 use Rattle.kb_again.specs.Sparing.{reaches}
 use Rattle.kb_again.proofs.EditLaws.{same_or_not, dir_is}
 use Rattle.kb_again.proofs.Ends.{in_turn, IsMember}
-use Rattle.kb_again.proofs.Facts.{is_steady}
+use Rattle.kb_again.proofs.Facts.{is_kept}
 use Rattle.kb_again.proofs.Kept.{SameOn, SameDirs, IsWhole}
 use Rattle.kb_again.proofs.KeptLaws.{parent_dirs}
 use Rattle.kb_again.proofs.PathLaws.{is_listed, not_so}
@@ -59,10 +59,10 @@ node_at-view r c t q =
     get-retain_keys t (λ x. sees r c x && not (is_dir (node_at t x))) q
     (λ x tie. ap (λ y. sees r c y && not (is_dir (node_at t y))) (sym (paths_exact q x tie)))
 
-pub view_same : (r : Roots) (c : Request) (t u : Tree) → ((q : Path) → sees r c q ≡ true → is_steady r q ≡ true) → SameOn (is_steady r) t u
+pub view_same : (r : Roots) (c : Request) (t u : Tree) → ((q : Path) → sees r c q ≡ true → is_kept r q ≡ true) → SameOn (is_kept r) t u
     → view_of r c t ≡ view_of r c u
-view_same r c t u steady same = same_tree _ _ (λ q. node_at-view r c t q ∙ elim (cases_Bool (sees r c q)) [
-  | inl is ↦ ap (λ o. cond (sees r c q && not (is_dir o)) o None) (same q (steady q is))
+view_same r c t u kept same = same_tree _ _ (λ q. node_at-view r c t q ∙ elim (cases_Bool (sees r c q)) [
+  | inl is ↦ ap (λ o. cond (sees r c q && not (is_dir o)) o None) (same q (kept q is))
   | inr isnt ↦
       ap (λ b. cond (b && not (is_dir (node_at t q))) (node_at t q) None) isnt
       ∙ sym (ap (λ b. cond (b && not (is_dir (node_at u q))) (node_at u q) None) isnt)
@@ -70,8 +70,8 @@ view_same r c t u steady same = same_tree _ _ (λ q. node_at-view r c t q ∙ el
 
 pub view_alike : (p : Path → Bool) (r : Roots) (c : Request) (t u : Tree) → ((q : Path) → sees r c q ≡ true → p q ≡ true) → SameOn p t u
     → view_of r c t ≡ view_of r c u
-view_alike p r c t u steady same = same_tree _ _ (λ q. node_at-view r c t q ∙ elim (cases_Bool (sees r c q)) [
-  | inl is ↦ ap (λ o. cond (sees r c q && not (is_dir o)) o None) (same q (steady q is))
+view_alike p r c t u kept same = same_tree _ _ (λ q. node_at-view r c t q ∙ elim (cases_Bool (sees r c q)) [
+  | inl is ↦ ap (λ o. cond (sees r c q && not (is_dir o)) o None) (same q (kept q is))
   | inr isnt ↦
       ap (λ b. cond (b && not (is_dir (node_at t q))) (node_at t q) None) isnt
       ∙ sym (ap (λ b. cond (b && not (is_dir (node_at u q))) (node_at u q) None) isnt)
@@ -145,7 +145,8 @@ module _ (p b : Path → Bool) (above : (q : Path) → p q ≡ true → (p (pare
         elim (cases_Bool (can_leave a e t)) [
           | inl does ↦ at_both t does ∙ sym (at_both u (sym can ∙ does))
           | inr doesnt ↦
-              ap (λ w. node_at w q) (effect_not a e t doesnt) ∙ same q is ∙ sym (ap (λ w. node_at w q) (effect_not a e u (sym can ∙ doesnt)))
+              ap (λ w. node_at w q) (effect_not a e t doesnt) ∙ same q is
+              ∙ sym (ap (λ w. node_at w q) (effect_not a e u (sym can ∙ doesnt)))
         ]
   ]
 
@@ -179,7 +180,14 @@ effect_softly ps a within e t q = elim (cases_Bool (can_leave a e t)) [
     | inl same ↦
         let front = and_parts _ _ (and_parts _ _ can).0 in
         let rest = and_parts _ _ (and_parts _ _ can).1 in
-        inr (within q (ap (reaches a) same ∙ front.0), ap (λ x. is_dir (node_at t x)) same ∙ not_so _ rest.0, ap is_dir (ap (λ v. node_at v q) (effect_does a e t can) ∙ ap (node_at (edited e.0 e.1 t)) same ∙ edited-here e.0 e.1 t) ∙ not_so _ front.1)
+        inr (
+          within q (ap (reaches a) same ∙ front.0),
+          ap (λ x. is_dir (node_at t x)) same
+              ∙ not_so _ rest.0,
+          ap is_dir
+              (ap (λ v. node_at v q) (effect_does a e t can) ∙ ap (node_at (edited e.0 e.1 t)) same ∙ edited-here e.0 e.1 t)
+              ∙ not_so _ front.1,
+        )
   ]
 ]
 
