@@ -145,8 +145,12 @@ shares_root roots root number staged target is placed =
     or_right true b e = refl
     or_right false b e = e
 
+    first_of : (a b : Bool) → a ≡ true → (a || b) ≡ true
+    first_of true b e = refl
+    first_of false b e = let impossible : false ≡ true = e in cc
+
     any_root : (test : Path → Bool) (roots : Roots) (root : RootName) → test (root_path roots root) ≡ true → list_any test (roots.boot ∷ based_roots roots) ≡ true
     any_root test roots root_name.Boot e = ap (λ b. b || list_any test (based_roots roots)) e
-    any_root test roots root_name.Dkms e = or_right (test roots.boot) (list_any test (based_roots roots)) (ap (λ b. b || _) e)
-    any_root test roots root_name.Src e = or_right (test roots.boot) (list_any test (based_roots roots)) (or_right (test roots.dkms) _ (ap (λ b. b || _) e))
-    any_root test roots root_name.Modules e = or_right (test roots.boot) (list_any test (based_roots roots)) (or_right (test roots.dkms) _ (or_right (test roots.src) _ (ap (λ b. b || _) e)))
+    any_root test roots root_name.Dkms e = or_right (test roots.boot) (list_any test (based_roots roots)) (first_of (test roots.dkms) _ e)
+    any_root test roots root_name.Src e = or_right (test roots.boot) (list_any test (based_roots roots)) (or_right (test roots.dkms) _ (first_of (test roots.src) _ e))
+    any_root test roots root_name.Modules e = or_right (test roots.boot) (list_any test (based_roots roots)) (or_right (test roots.dkms) _ (or_right (test roots.src) _ (first_of (test roots.modules) _ e)))

@@ -43,10 +43,13 @@ cause_of_ok old new a b c = record { later = c.later; rose = λ failed. absurd (
 -- ---- a wipe
 
 wiped_within : (roots : Roots) (script : Script) (path : Path) (tree now : Tree) → IsWipedInPart path tree now → IsWithin roots script (changes.Wipe path) tree now
-wiped_within roots script path tree now w = (w.formed, λ q. elim (w.each q) [
+wiped_within roots script path tree now w = (
+  w.formed,
+  λ q. elim (w.each q) [
     | inl same ↦ inl same
     | inr gone ↦ inr (gone.1 ∙ sym (cleared_at (λ other. is_under other path) tree q ∙ ap (λ b. cond b None (node_at tree q)) gone.0))
-  ])
+  ],
+)
 
 module _ (roots : Roots) (path : Path) (old new : State) where
   wipe_within : {T : Type 0} (result : Result T WorldError) → TakesAway (without_tree path) path old new result → ForSome old.tree (IsWithinNow roots old.script (changes.Wipe path) new.tree)
@@ -132,7 +135,7 @@ edit_differs area tree (Some edit) q leaf = by_can (can_edit area tree edit.path
         let at_path : q ≡ edit.path = same_path-true q edit.path same in
         let parts = first_so (holds area tree edit.path && not (is_dir (node_at tree edit.path))) (is_dir (node_at tree (parent edit.path))) can in
         let lets = lets_edit area tree edit.path edit.at (first_so (holds area tree edit.path) (not (is_dir (node_at tree edit.path))) parts)
-            (not_so (is_dir (node_at tree edit.path)) (second_so (holds area tree edit.path) (not (is_dir (node_at tree edit.path))) parts)) leaf in
+        (not_so (is_dir (node_at tree edit.path)) (second_so (holds area tree edit.path) (not (is_dir (node_at tree edit.path))) parts)) leaf in
         subst (λ p. DiffersIn area p (node_at tree p) (node_at (edited edit.path edit.at tree) p)) (sym at_path)
         (inr (subst (λ left. lets_differ area edit.path (node_at tree edit.path) left ≡ true) (sym (edited_here edit.path edit.at tree)) lets))
     here can false same = inl (edited_apart edit.path edit.at tree q (λ is. let impossible : true ≡ false = sym (same_path-refl q) ∙ ap (same_path q) is ∙ same in cc))
@@ -209,7 +212,7 @@ module _ (roots : Roots) (request : Request) (old new : State) (rooted : ForSome
 pub does_since : {A : Type 0} (roots : Roots) (change : Change) (old mid new : State) (looked : Result A WorldError) (result : Result (Option Reply) WorldError) → Looks old mid looked
     → DoesChange roots change mid new result → DoesChange roots change old new result
 does_since roots change old mid new looked result l d = record {
-  done = λ tree told. by result (d.done tree (l.unchanged.tree ∙ told));
+  done = λ tree told. by tree result (d.done tree (l.unchanged.tree ∙ told));
   within = λ tree told. subst (λ script. IsWithinNow roots script change new.tree tree) l.unchanged.ran_none.lasts.script (d.within tree (l.unchanged.tree ∙ told));
   soft = subst (λ (h : History). (new.history.soft ≡ h.soft) ⊎ (new.history.soft ≡ areas_of (change ∷ []) ++ h.soft)) l.unchanged.history d.soft;
   moments = λ tree told. subst (λ (h : History). Adds (LeftWithin roots old.script change h.soft tree) h new.history) l.unchanged.history
@@ -218,13 +221,13 @@ does_since roots change old mid new looked result l d = record {
   cause = cause_then Failed old mid new looked result l.unchanged.ran_none.lasts.told l.cause d.cause;
 }
   where
-    by : (r : Result (Option Reply) WorldError) → {tree : Tree} → IfOk r (λ reply. IsChanged roots change mid new reply tree) → IfOk r (λ reply. IsChanged roots change old new reply tree)
-    by (Ok reply) {tree} is = record {
+    by : (tree : Tree) (r : Result (Option Reply) WorldError) → IfOk r (λ reply. IsChanged roots change mid new reply tree) → IfOk r (λ reply. IsChanged roots change old new reply tree)
+    by tree (Ok reply) is = record {
       tree = is.tree ∙ ap (λ script. Some (do_change roots script change tree)) l.unchanged.ran_none.lasts.script;
       ran = is.ran ∙ ap (λ r. r ++ request_at change tree) l.unchanged.ran_none.ran;
       said = is.said ∙ ap (λ script. map (λ request. (answer_in roots script request tree).reply) (request_at change tree)) l.unchanged.ran_none.lasts.script;
     }
-    by (Err error) is = tt
+    by tree (Err error) is = tt
 
 -- a child whose directory isn't there is passed over
 module _ (roots : Roots) (request : Request) (old new : State) (formed : HasFormedTree old) where
