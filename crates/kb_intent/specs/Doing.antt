@@ -1,5 +1,6 @@
 -- What a change of a transaction does to a world, and what a crash leaves meanwhile. This project's own.
 use Rattle.std.specs.Prelude.{◌≡◌, ◌⊎◌, List, [], ◌∷◌, ◌++◌, map, Option, Some, None, Result, option_map, OnOk, IfOk, is_some, cond, not, ◌&&◌}
+use Rattle.std.specs.List.{AllByRecursion}
 use Rattle.std.specs.Option.{ForSome}
 use Rattle.kb_world.specs.Area.{IsLeft}
 use Rattle.kb_world.specs.Crash.{Adds}
@@ -13,10 +14,11 @@ use Rattle.kb_world.specs.declared.roots.Roots.{Roots}
 use Rattle.kb_world.specs.declared.tree.Node.TheVariants as node
 use Rattle.kb_world.specs.declared.world.WorldError.{WorldError}
 use Rattle.kb_world.specs.declared.world.WorldError.TheVariants.{Failed}
-use Rattle.kb_changes.specs.Change.{do_change, request_at}
+use Rattle.kb_changes.specs.Change.{do_change, done, request_at, requests_of, replies_of}
 use Rattle.kb_changes.specs.declared.change.Change.{Change}
 use Rattle.kb_again.specs.Sparing.{areas_of}
-use Rattle.kb_again.specs.Within.{IsWithin}
+use Rattle.kb_again.specs.Within.{IsWithin, IsWithinNext, IsBetween}
+use Rattle.kb_machine.specs.Aside.{IsOneArea}
 
 -- ---- a change that is one file operation
 
@@ -81,5 +83,32 @@ pub record DoesChange (roots : Roots) (change : Change) (old new : State) (resul
   pub within : ForSome old.tree (IsWithinNow roots old.script change new.tree)
   pub soft : (new.history.soft ≡ old.history.soft) ⊎ (new.history.soft ≡ areas_of (change ∷ []) ++ old.history.soft)
   pub moments : ForSome old.tree (λ tree. Adds (LeftWithin roots old.script change old.history.soft tree) old.history new.history)
+  pub lasts : Lasts old new
+  pub cause : HasCause Failed old new result
+
+-- ---- changes in their order
+
+-- all were done: the tree after them, their requests and their replies
+pub record AreChanged (roots : Roots) (changes : List Change) (old new : State) (replies : List Reply) (before : Tree) : Type 0 where
+  pub tree : new.tree ≡ Some (done roots old.script changes before)
+  pub ran : new.ran ≡ old.ran ++ requests_of roots old.script changes before
+  pub said : replies ≡ replies_of roots old.script changes before
+
+-- some were done, and the tree that is told now lies within the next one
+pub record IsCutOffNow (roots : Roots) (script : Script) (changes : List Change) (new : Option Tree) (before : Tree) : Type 0 where
+  pub front : List Change
+  pub back : List Change
+  pub split : front ++ back ≡ changes
+  pub now : Tree
+  pub told : new ≡ Some now
+  pub within : IsWithinNext roots script back (done roots script front before) now
+
+-- The call does the changes in their order, and whatever it answers nothing else is changed.
+pub record DoesChanges (roots : Roots) (changes : List Change) (old new : State) (result : Result (List Reply) WorldError) : Type 0 where
+  pub done : ForSome old.tree (λ tree. IfOk result (λ replies. AreChanged roots changes old new replies tree))
+  pub cut_off : ForSome old.tree (IsCutOffNow roots old.script changes new.tree)
+  -- what is soft now was soft, or is an area of theirs
+  pub soft : AllByRecursion (λ area. IsOneArea area (areas_of changes ++ old.history.soft)) new.history.soft
+  pub moments : ForSome old.tree (λ tree. Adds (IsBetween roots old.script changes old.history.soft tree) old.history new.history)
   pub lasts : Lasts old new
   pub cause : HasCause Failed old new result

@@ -1,18 +1,19 @@
 // Any change of a transaction is done.
-ghost use Rattle.std.specs.Prelude.{◌≡◌, true};
+ghost use Rattle.std.specs.Prelude.{◌≡◌, ◌++◌, true, OnOk};
+ghost use Rattle.std.specs.List.{list_all};
 ghost use Rattle.std.specs.Option.{ForSome};
 ghost use Rattle.kb_world.specs.Roots.{share_root};
 ghost use Rattle.kb_changes.specs.Valid.{is_well_placed};
 ghost use Rattle.kb_changes.specs.declared.change.Change.TheVariants as changes;
 ghost use Rattle.kb_world.specs.Tree.{node_at, is_dir};
-ghost use Rattle.kb_intent.specs.Doing.{StepsTo, DoesChange, put_staged_at};
+ghost use Rattle.kb_intent.specs.Doing.{StepsTo, DoesChange, DoesChanges, put_staged_at, said_by};
 
 use crate::doing::{drop_directory, drop_leaf, make_directory, put_staged};
 use crate::standing::is_directory;
 use kb_changes::{Change, RootName, staged_path};
 use kb_walk::wipe;
-use kb_world::{Path, Reply, Request, Roots, World, WorldError};
-use std::alloc::Global;
+use kb_world::{Path, Reply, Request, Roots, Sequence, World, WorldError};
+use std::alloc::{AllocError, Global};
 
 fn do_dir<W: World>(
     alloc: Global,
@@ -169,4 +170,39 @@ pub fn do_change<W: World>(
         Change::Wipe(path) => do_wipe(alloc, world, roots, path),
         Change::Run(request) => do_run(alloc, world, roots, request),
     }
+}
+
+// Keeps the reply of a run.
+fn keep_reply(replies: &mut Sequence<Reply>, reply: Option<Reply>) -> Result<(), AllocError>
+    ensures { OnOk result (replies.new ≡ replies.old ++ said_by reply) }
+{
+    match reply {
+        Some(reply) => replies.push(reply),
+        None => Ok(()),
+    }
+}
+
+/// Does changes in their order. The replies are those of the runs.
+pub fn do_changes<W: World>(
+    alloc: Global,
+    world: &mut W,
+    roots: &Roots,
+    changes: &[Change],
+) -> Result<Sequence<Reply>, WorldError>
+    requires rooted { ForSome (W.state world.old).tree (λ tree. (W.state world.old).roots ≡ roots.now) }
+    requires placed { list_all (is_well_placed roots.now) changes.now ≡ true }
+    ensures { DoesChanges roots.now changes.now (W.state world.old) (W.state world.new) result }
+{
+    let mut replies = Sequence::new(alloc);
+    for change in changes {
+        let reply = match do_change(alloc, world, roots, change) {
+            Ok(reply) => reply,
+            Err(error) => return Err(error),
+        };
+        match keep_reply(&mut replies, reply) {
+            Ok(()) => {}
+            Err(_) => return Err(WorldError::NoMemory),
+        }
+    }
+    Ok(replies)
 }

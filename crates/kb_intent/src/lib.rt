@@ -5,4 +5,4 @@ mod changing;
 mod doing;
 mod standing;
 
-pub use changing::do_change;
+pub use changing::{do_change, do_changes};

@@ -28,12 +28,12 @@ use Rattle.kb_machine.proofs.RestLaws.{Lets, some_area, lets-reaches}
 
 -- ---- one of these areas
 
-member_left : (area : Area) (xs ys : List Area) → IsOneArea area xs → IsOneArea area (xs ++ ys)
+pub member_left : (area : Area) (xs ys : List Area) → IsOneArea area xs → IsOneArea area (xs ++ ys)
 member_left area [] ys one = absurd one
 member_left area (x ∷ xs) ys (inl here) = inl here
 member_left area (x ∷ xs) ys (inr later) = inr (member_left area xs ys later)
 
-member_right : (area : Area) (xs ys : List Area) → IsOneArea area ys → IsOneArea area (xs ++ ys)
+pub member_right : (area : Area) (xs ys : List Area) → IsOneArea area ys → IsOneArea area (xs ++ ys)
 member_right area [] ys one = one
 member_right area (x ∷ xs) ys one = inr (member_right area xs ys one)
 
@@ -46,12 +46,12 @@ member_soft area [] path was left one lets = absurd one
 member_soft area (x ∷ soft) path was left (inl here) lets = ap (λ b. b || is_soft_at soft path was left) (ap (λ x. lets_differ x path was left) (sym here) ∙ lets)
 member_soft area (x ∷ soft) path was left (inr later) lets = or_right (lets_differ x path was left) _ (member_soft area soft path was left later lets)
 
-all_members : (areas whole : List Area) → ((area : Area) → IsOneArea area areas → IsOneArea area whole) → AllByRecursion (λ area. IsOneArea area whole) areas
+pub all_members : (areas whole : List Area) → ((area : Area) → IsOneArea area areas → IsOneArea area whole) → AllByRecursion (λ area. IsOneArea area whole) areas
 all_members [] whole each = tt
 all_members (area ∷ areas) whole each = (each area (inl refl), all_members areas whole (λ other one. each other (inr one)))
 
 -- more areas leave more
-left_by_members : (some whole : List Area) (before after : Tree) → AllByRecursion (λ area. IsOneArea area whole) some → IsLeft some before after → IsLeft whole before after
+pub left_by_members : (some whole : List Area) (before after : Tree) → AllByRecursion (λ area. IsOneArea area whole) some → IsLeft some before after → IsLeft whole before after
 left_by_members some whole before after all left = record {
   each = λ path. elim (left.each path) [
     | inl same ↦ inl same
@@ -84,11 +84,11 @@ own_part-has roots soft (area ∷ areas) (inr aside, rest) = (inl refl, later (o
     later whole [] each = tt
     later whole (x ∷ some) each = (inr each.0, later whole some each.1)
 
-all_append : (P : Area → Type 0) (xs ys : List Area) → AllByRecursion P xs → AllByRecursion P ys → AllByRecursion P (xs ++ ys)
+pub all_append : (P : Area → Type 0) (xs ys : List Area) → AllByRecursion P xs → AllByRecursion P ys → AllByRecursion P (xs ++ ys)
 all_append P [] ys all more = more
 all_append P (x ∷ xs) ys all more = (all.0, all_append P xs ys all.1 more)
 
-all_wider : (P Q : Area → Type 0) (xs : List Area) → ((x : Area) → P x → Q x) → AllByRecursion P xs → AllByRecursion Q xs
+pub all_wider : (P Q : Area → Type 0) (xs : List Area) → ((x : Area) → P x → Q x) → AllByRecursion P xs → AllByRecursion Q xs
 all_wider P Q [] wider all = tt
 all_wider P Q (x ∷ xs) wider all = (wider x all.0, all_wider P Q xs wider all.1)
 
