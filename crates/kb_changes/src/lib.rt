@@ -1,0 +1,16 @@
+//! What a transaction of the journal is: its changes, what doing them makes of a tree, when they are valid, and the
+//! text of a journal.
+#![tactic(auto)]
+
+mod change;
+mod group;
+mod ordered;
+mod path_set;
+mod placed;
+mod roots;
+mod runs;
+mod valid;
+
+pub use change::{Change, Intent, Recovered, RootName};
+pub use roots::staged_path;
+pub use valid::is_valid;
