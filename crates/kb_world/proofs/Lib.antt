@@ -3,6 +3,7 @@ pub mod CrashLaws
 pub mod DamageLaws
 pub mod DoesLaws
 pub mod LayoutLaws
+pub mod LookLaws
 pub mod LinkLaws
 pub mod NameLaws
 pub mod PartLaws
