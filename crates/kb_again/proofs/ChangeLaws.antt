@@ -9,9 +9,9 @@ use Rattle.kb_changes.specs.Valid.{is_valid}
 use Rattle.kb_changes.specs.declared.change.Change.{Change}
 use Rattle.kb_changes.specs.declared.change.Change.TheVariants.{Dir, Put, Drop, DropDir, Wipe, Run}
 use Rattle.kb_again.specs.Sparing.{areas_of}
-use Rattle.kb_again.specs.Within.{IsWithinNext}
+use Rattle.kb_again.specs.Within.{IsWithin, IsWithinNext}
 use Rattle.kb_again.proofs.BetweenLaws.{IsCutNext, areas_in}
-use Rattle.kb_again.proofs.EditLaws.{dir_is}
+use Rattle.kb_again.proofs.EditLaws.{dir_is, dir_test}
 use Rattle.kb_again.proofs.FactLaws.{known_valid}
 use Rattle.kb_again.proofs.Facts.{lists_of}
 use Rattle.kb_again.proofs.Kept.{IsWhole}
@@ -25,6 +25,9 @@ use Rattle.kb_again.proofs.WriteLaws.{run_is}
 
 pub whole_of : (t : Tree) → IsFormed t → IsWhole t
 whole_of t formed q stands = dir_is (node_at t (parent q)) (formed q stands)
+
+pub formed_of : (t : Tree) → IsWhole t → IsFormed t
+formed_of t whole q stands = dir_test (node_at t (parent q)) (whole q stands)
 
 -- ---- doing them
 
@@ -90,3 +93,11 @@ done_is r f cs t valid = done_same r f cs t ∙ ap (λ xs. do_steps f r xs t) (s
 pub done_whole : (r : Roots) (f : Script) (cs : List Change) (t : Tree) → IsWhole t → IsWhole (done r f cs t)
 done_whole r f cs t whole =
     subst IsWhole (sym (done_same r f cs t)) (turn_whole (do_step f r) (step_whole f r) (map (step_of r) cs) t whole)
+
+-- ---- formed trees stay formed
+
+pub done_formed : (r : Roots) (f : Script) (cs : List Change) (t : Tree) → IsFormed t → IsFormed (done r f cs t)
+done_formed r f cs t formed = formed_of (done r f cs t) (done_whole r f cs t (whole_of t formed))
+
+pub within_formed : (r : Roots) (f : Script) (c : Change) (t v : Tree) → IsFormed t → IsWithin r f c t v → IsFormed v
+within_formed r f c t v formed within = formed_of v (cut_there r f (c ∷ []) t v (whole_of t formed) within).whole

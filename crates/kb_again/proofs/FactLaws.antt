@@ -317,7 +317,8 @@ pub record IsKnownValid (r : Roots) (cs : List Change) : Type 0 where
 pub known_valid : (r : Roots) (cs : List Change) → is_valid r cs ≡ true → IsKnownValid r cs
 known_valid r cs h =
     let s = lists_of cs in
-    let runs_fit = and_parts (are_ordered cs && are_targets_kept r cs && are_dirs_kept r cs && are_well_placed r cs) (are_fit_runs r cs) h in
+    let runs_fit = and_parts (are_ordered cs && are_targets_kept r cs && are_dirs_kept r cs && are_well_placed r cs)
+    (are_fit_runs r cs) h in
     let well_placed = and_parts (are_ordered cs && are_targets_kept r cs && are_dirs_kept r cs) (are_well_placed r cs) runs_fit.0 in
     let dirs_kept = and_parts (are_ordered cs && are_targets_kept r cs) (are_dirs_kept r cs) well_placed.0 in
     let fitting = and_parts (are_ordered cs) (are_targets_kept r cs) dirs_kept.0 in
@@ -344,12 +345,15 @@ known_valid r cs h =
             λ c in_it is. no _ (of_all (λ path. not (list_any (is_under path) (wipes_in cs))) (targets_in cs) undropped.0 c.target
             (at c in_it)) is;
         target_not_dropped =
-            λ c in_it is. no _ (of_all (λ path. not (is_among_paths (drops_in cs) path)) (targets_in cs) undropped.1 c.target (at c in_it)) is;
+            λ c in_it is. no _ (of_all (λ path. not (is_among_paths (drops_in cs) path)) (targets_in cs) undropped.1 c.target
+            (at c in_it)) is;
         target_not_second =
             λ c in_it is. no _
             (of_all (λ path. not (is_among_paths (second_drop_dirs cs) path)) (targets_in cs) unlisted.1 c.target (at c in_it)) is;
-        different = different r (puts_in cs) (ap all_differ (sym (targets_are cs)) ∙ targets.1) (ap all_differ (sym (staged_are r cs)) ∙ staged.1);
-        dir_not_wiped = λ q listed is. no _ (of_all (λ path. not (list_any (is_under path) (wipes_in cs))) (dirs_in cs) apart.0 q listed) is;
+        different = different r (puts_in cs) (ap all_differ (sym (targets_are cs)) ∙ targets.1)
+            (ap all_differ (sym (staged_are r cs)) ∙ staged.1);
+        dir_not_wiped = λ q listed is. no _
+            (of_all (λ path. not (list_any (is_under path) (wipes_in cs))) (dirs_in cs) apart.0 q listed) is;
         second_not_below = λ q x listed below later.
             no _ (of_all (λ path. not (list_any (is_below path) (first_drop_dirs cs))) (second_drop_dirs cs) apart.1 x later)
             (below_some (first_drop_dirs cs) q x listed below);

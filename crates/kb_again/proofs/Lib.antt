@@ -1,35 +1,35 @@
-mod PathLaws
-mod Standing
-mod Ends
-mod EditLaws
-mod Parts
-mod MoveLaws
-mod GroupLaws
-mod AgainLaws
-mod PartLaws
-mod Kept
-mod Flat
-mod FrontLaws
-mod KeptLaws
-mod Facts
-mod PlaceLaws
-mod Steps
-mod OrderLaws
-mod RootLaws
-mod ValidLaws
-mod WriteLaws
-mod RunLaws
-mod PublicLaws
-mod WithinLaws
-mod JournalLaws
-mod UnseenLaws
-mod Soft
-mod SoftLaws
-mod SettledLaws
-mod BetweenLaws
-mod FactLaws
-mod ChangeLaws
-mod ReplyLaws
-mod Laws
-mod Witness
-mod AlikeLaws
+pub mod AgainLaws
+pub mod AlikeLaws
+pub mod BetweenLaws
+pub mod ChangeLaws
+pub mod EditLaws
+pub mod Ends
+pub mod FactLaws
+pub mod Facts
+pub mod Flat
+pub mod FrontLaws
+pub mod GroupLaws
+pub mod JournalLaws
+pub mod Kept
+pub mod KeptLaws
+pub mod Laws
+pub mod MoveLaws
+pub mod OrderLaws
+pub mod PartLaws
+pub mod Parts
+pub mod PathLaws
+pub mod PlaceLaws
+pub mod PublicLaws
+pub mod ReplyLaws
+pub mod RootLaws
+pub mod RunLaws
+pub mod SettledLaws
+pub mod Soft
+pub mod SoftLaws
+pub mod Standing
+pub mod Steps
+pub mod UnseenLaws
+pub mod ValidLaws
+pub mod WithinLaws
+pub mod Witness
+pub mod WriteLaws

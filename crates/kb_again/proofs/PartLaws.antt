@@ -231,7 +231,8 @@ module _ (g : Groups) (valid : IsValid g) where
         ap (λ v. in_turn drop_dir_at g.second (in_turn move_at g.puts (in_turn make_dir_at g.dirs (in_turn drop_dir_at g.first v))))
         (free_start u free)
 
-    in_dirs_once : (u : Tree) → Between (node_at (cleared_tree g t)) (node_at (made_tree g t)) (node_at u) → groups_done g u ≡ groups_done g t
+    in_dirs_once : (u : Tree) → Between (node_at (cleared_tree g t)) (node_at (made_tree g t)) (node_at u)
+        → groups_done g u ≡ groups_done g t
     unfolding rest_of
     in_dirs_once u between =
         from_third u (between_free g _ _ _ cleared_tree_free made_tree_free between)
@@ -280,7 +281,8 @@ module _ (g : Groups) (valid : IsValid g) where
         }))))
         ∙ ap (in_turn drop_dir_at g.second) (moves_before g.puts some valid.apart sub (made_tree g t))
 
-    in_second_once : (u : Tree) → Between (node_at (put_tree g t)) (node_at (groups_done g t)) (node_at u) → groups_done g u ≡ groups_done g t
+    in_second_once : (u : Tree) → Between (node_at (put_tree g t)) (node_at (groups_done g t)) (node_at u)
+        → groups_done g u ≡ groups_done g t
     unfolding rest_of
     in_second_once u between =
         let m = moved g.puts (made_tree g t) in

@@ -156,7 +156,8 @@ module _ (r : Roots) (s : Lists) (roots : AreRoots r) (valid : IsValidUnder r s)
   ]
 
   all_same : (f : Script) (t u : Tree)
-      → SameOn (is_kept r) (groups_done (groups_of r s) t) (groups_done (groups_of r s) u) × SameDirs (is_beside r) (groups_done (groups_of r s) t)
+      → SameOn (is_kept r) (groups_done (groups_of r s) t) (groups_done (groups_of r s) u) × SameDirs (is_beside r)
+      (groups_done (groups_of r s) t)
       (groups_done (groups_of r s) u)
       → SameOn (is_kept r) (after_all f r s t) (after_all f r s u) × SameDirs (is_beside r) (after_all f r s t) (after_all f r s u)
   all_same f t u same = (

@@ -203,7 +203,8 @@ seen_alike_all f r s t u roots valid whole whole_u same dirs staged =
     record {
       same = unseen f r s t u roots valid whole whole_u same staged;
       dirs =
-          λ q is. runs_dirs f r s.runs (groups_done (groups_of r s) t) q ∙ groups.1 q is ∙ sym (runs_dirs f r s.runs (groups_done (groups_of r s) u) q);
+          λ q is. runs_dirs f r s.runs (groups_done (groups_of r s) t) q ∙ groups.1 q is
+          ∙ sym (runs_dirs f r s.runs (groups_done (groups_of r s) u) q);
       replies = all.0;
       made = all.1;
     }

@@ -23,8 +23,8 @@ is_list_of_names Nothing = false
 is_list_of_names (Under directory) = false
 is_list_of_names (Names directory names) = true
 
--- The path is public for the area: below a root that is written, and not private. An initrd is a file directly in the boot
--- root, which is public only as a directory.
+-- What the area leaves at the path may be public: it is at or under a root that is written, and not private. At an initrd's
+-- path, directly in the boot root, only a directory would be, and a list of names leaves none.
 abbrev pub counts : Roots → Area → Path → Bool
 counts roots area path =
     list_any (is_under path) (written_roots roots) && (not (is_private roots path) && not (is_list_of_names area && is_initrd roots path))

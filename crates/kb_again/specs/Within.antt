@@ -18,7 +18,8 @@ use Rattle.kb_again.specs.Sparing.{AreSparing, areas_of}
 abbrev pub IsWithin : Roots → Script → Change → Tree → Tree → Type 0
 IsWithin roots script (Wipe path) before image =
     IsFormed image
-    × ((other : Path) → (node_at image other ≡ node_at before other) ⊎ (node_at image other ≡ node_at (do_change roots script (Wipe path) before) other))
+    × ((other : Path) → (node_at image other ≡ node_at before other)
+    ⊎ (node_at image other ≡ node_at (do_change roots script (Wipe path) before) other))
 IsWithin roots script (Run request) before image = IsLeft (request.area ∷ []) before image
 IsWithin roots script change before image = (image ≡ before) ⊎ (image ≡ do_change roots script change before)
 
@@ -56,7 +57,8 @@ pub record IsDoneAlike (roots : Roots) (script : Script) (changes : List Change)
 abbrev pub IsBetweenEach : Roots → Script → List Change → Tree → List (List Area × Tree) → Type 0
 IsBetweenEach roots script changes tree [] = Unit {0}
 IsBetweenEach roots script changes tree (next ∷ images) =
-    AreSparing roots (areas_of changes) next.0 × IsBetween roots script changes next.0 tree next.1 × IsBetweenEach roots script changes next.1 images
+    AreSparing roots (areas_of changes) next.0 × IsBetween roots script changes next.0 tree next.1
+    × IsBetweenEach roots script changes next.1 images
 
 abbrev pub last_image : Tree → List (List Area × Tree) → Tree
 last_image tree [] = tree

@@ -18,7 +18,7 @@ ghost use Rattle.kb_changes.specs.declared.change.Change.{Change};
 ghost use Rattle.kb_again.specs.Cases.{IsCase};
 ghost use Rattle.kb_again.specs.Sparing.{AreSparing, areas_of, settled};
 ghost use Rattle.kb_again.specs.Unseen.{AreAlike, HaveStaged, AreDoneAlike};
-ghost use Rattle.kb_again.specs.Within.{IsBetween, IsUnstaged, IsDoneAlike, IsBetweenEach, last_image};
+ghost use Rattle.kb_again.specs.Within.{IsWithin, IsBetween, IsUnstaged, IsDoneAlike, IsBetweenEach, last_image};
 
 /// From what a crash leaves while valid changes are done, doing all of them gives the public tree
 /// that doing them once gives, and the journal stands as it did: also where they are cut off again
@@ -69,6 +69,14 @@ pub fn no_change_sees_the_journal()
     ensures parts { (roots : Roots) (a b : Tree) → AreAlike roots a b
         → (public_tree roots a ≡ public_tree roots b)
         × (foreign_tree roots a ≡ foreign_tree roots b) }
+{}
+
+/// A formed tree stays formed: behind any changes, and within one that is cut off.
+pub fn trees_stay_formed()
+    ensures done { (roots : Roots) (script : Script) (changes : List Change) (tree : Tree)
+        → IsFormed tree → IsFormed (done roots script changes tree) }
+    ensures within { (roots : Roots) (script : Script) (change : Change) (before image : Tree)
+        → IsFormed before → IsWithin roots script change before image → IsFormed image }
 {}
 
 /// Some roots, changes, areas and trees meet all that these laws ask for.
