@@ -5,6 +5,7 @@ pub mod DoesLaws
 pub mod LayoutLaws
 pub mod LeftLaws
 pub mod LinkLaws
+pub mod LookLaws
 pub mod NameLaws
 pub mod PartLaws
 pub mod PathLaws

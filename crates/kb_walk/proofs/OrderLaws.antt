@@ -9,7 +9,7 @@ use Rattle.std.specs.Cmp.Derive.{both_true}
 use Rattle.std.specs.Cmp.Lexicographic.{slice_cmp, bytes_decides, nat_list_cmp_total}
 use Rattle.kb_world.specs.Path.{Path, path_cmp}
 use Rattle.kb_world.specs.TreeLaws.{same_path, same_path-true, same_path-refl}
-pub use Rattle.kb_store.specs.Contents.{rises}
+pub use Rattle.kb_walk.specs.Walking.{rises}
 use Rattle.kb_world.proofs.PathLaws.{by_test}
 use Rattle.std.specs.FinMap.{slice_cmp-IsAntisymmetric, nat_cmp-IsAntisymmetric}
 

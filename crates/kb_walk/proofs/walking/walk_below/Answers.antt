@@ -1,8 +1,8 @@
 -- A walk begins with nothing met.
 use Rattle.std.proofs.Common.{◌∙◌, ap, length, ◌+◌, None, List}
-use Rattle.kb_store.specs.Walking.{walk_on, walked, entries}
-use Rattle.kb_store.specs.declared.walking.Met.{Met}
-use Rattle.kb_store.proofs.walking.walk_below.Goals as goal
+use Rattle.kb_walk.specs.Walking.{walk_on, walked, entries}
+use Rattle.kb_walk.specs.declared.walking.Met.{Met}
+use Rattle.kb_walk.proofs.walking.walk_below.Goals as goal
 
 pub returns-clause-met : goal.returns-clause-met
 unfolding walked

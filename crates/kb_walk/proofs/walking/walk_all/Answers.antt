@@ -1,6 +1,6 @@
 -- No walk passes limits that no count reaches.
-use Rattle.kb_store.proofs.LimitLaws.{unlimited}
-use Rattle.kb_store.proofs.walking.walk_all.Goals as goal
+use Rattle.kb_walk.proofs.LimitLaws.{unlimited}
+use Rattle.kb_walk.proofs.walking.walk_all.Goals as goal
 
 pub returns-clause-met : goal.returns-clause-met
 returns-clause-met g c tree told =

@@ -1,10 +1,10 @@
 // A walk: every entry below a directory, in the order of paths.
-ghost use Rattle.std.specs.Prelude.{◌≡◌, ◌<◌, ◌≤◌, ◌||◌, ◌&&◌, nat_le, nat_eq, ◌+◌, ◌++◌, List, ℕ, Bool, true, length, map, IfOk, IfSome, OnOk, IsTrue};
+ghost use Rattle.std.specs.Prelude.{◌≡◌, ◌<◌, ◌≤◌, ◌||◌, ◌&&◌, nat_le, nat_eq, ◌+◌, ◌++◌, List, ℕ, Bool, true, false, length, map, IfOk, IfSome, OnOk, IsTrue};
 ghost use Rattle.std.specs.Option.{ForSome};
 ghost use Rattle.kb_world.specs.Names.{is_name};
 ghost use Rattle.kb_world.specs.Tree.{node_at, is_dir};
 ghost use Rattle.kb_world.specs.State.{Looks};
-ghost use Rattle.kb_store.specs.Walking.{entries, entry_block, met_at, walk_on, walked, is_dir_kind};
+ghost use Rattle.kb_walk.specs.Walking.{entries, entry_block, met_at, walk_on, walked, is_dir_kind};
 
 use kb_world::{Kind, Path, Sequence, Text, World, WorldError};
 use std::alloc::Global;
@@ -16,7 +16,7 @@ pub struct Limits {
     pub depth: u64,
 }
 
-/// The limits of a store's walk.
+/// The limits of a walk that has any: of a store, of a tree that is copied, of a kernel's modules.
 pub const LIMITS: Limits = Limits {
     entries: 65_536,
     depth: 64,
@@ -46,6 +46,20 @@ pub trait Skips {
 
     /// What is below a skipped entry is skipped.
     ghost deeper: { (it : Self) (path more : List (List ℕ)) → skips it path ≡ true → skips it (path ++ more) ≡ true };
+}
+
+/// A walk over everything skips nothing.
+#[derive(Clone, Copy, Debug)]
+pub struct Everything;
+
+impl Skips for Everything {
+    ghost skips = { λ it path. false };
+
+    fn skips(&self, _: &Path) -> bool {
+        false
+    }
+
+    ghost deeper = { λ it path more skipped. skipped };
 }
 
 // Limits that no walk passes, since memory holds fewer items than a number can count.

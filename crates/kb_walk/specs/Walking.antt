@@ -1,15 +1,21 @@
 -- What a walk meets below a directory, in the order of paths, and where it stops. This project's own.
 use Rattle.std.specs.Prelude.{ℕ, ◌+◌, Bool, true, false, ◌&&◌, ◌||◌, not, cond, List, [], ◌∷◌, ◌++◌, length, filter, nat_le, nat_lt, Option, Some, None}
-use Rattle.std.specs.List.{fold}
+use Rattle.std.specs.List.{fold, list_all}
+use Rattle.std.specs.Ordering.{is_lt}
 use Rattle.std.specs.FinMap.{keys}
-use Rattle.kb_world.specs.Path.{Path, child}
+use Rattle.kb_world.specs.Path.{Path, path_cmp, child}
 use Rattle.kb_world.specs.Roots.{is_below}
 use Rattle.kb_world.specs.Tree.{Tree, node_at, kind_of, is_dir}
 use Rattle.kb_world.specs.declared.tree.Kind.{Kind}
 use Rattle.kb_world.specs.declared.tree.Kind.TheVariants as kind
-use Rattle.kb_store.specs.declared.walking.Limits.{Limits}
-use Rattle.kb_store.specs.declared.walking.Met.{Met}
-use Rattle.kb_store.specs.declared.walking.Walk.{Walk}
+use Rattle.kb_walk.specs.declared.walking.Limits.{Limits}
+use Rattle.kb_walk.specs.declared.walking.Met.{Met}
+use Rattle.kb_walk.specs.declared.walking.Walk.{Walk}
+
+-- each path is less than all behind it
+abbrev pub rises : List Path → Bool
+rises [] = true
+rises (path ∷ paths) = list_all (λ other. is_lt (path_cmp path other)) paths && rises paths
 
 -- the paths below a directory
 abbrev pub paths_below : Tree → Path → List Path
@@ -23,7 +29,8 @@ entries tree skips directory = filter (λ path. not (skips path)) (paths_below t
 abbrev pub entry_block : Tree → (Path → Bool) → Path → List ℕ → List Path
 entry_block tree skips directory name = cond (skips (child directory name)) [] (child directory name ∷ entries tree skips (child directory name))
 
--- the limits of a store's walk: how many entries it meets at most, and how deep below its start a directory may stand
+-- the limits of a walk that has any: how many entries it meets at most, and how deep below its start a directory may
+-- stand
 abbrev pub LIMITS : Limits
 LIMITS = record { entries = 65536; depth = 64 }
 

@@ -1,6 +1,6 @@
 use Rattle.std.proofs.Common.{◌+◌, ◌*◌}
-use Rattle.kb_store.proofs.VisitLaws.{HasVisited}
-use Rattle.kb_store.proofs.walking.+walk.Given as goal
+use Rattle.kb_walk.proofs.VisitLaws.{HasVisited}
+use Rattle.kb_walk.proofs.walking.+walk.Given as goal
 
 abbrev pub decreases-visit : goal.decreases-visit
 decreases-visit g l = 2 * l.depth + 1

@@ -16,11 +16,11 @@ use Rattle.kb_world.specs.declared.tree.Kind.{Kind}
 use Rattle.kb_world.specs.declared.tree.Kind.TheVariants as kind
 use Rattle.kb_world.specs.declared.tree.Node.{Node}
 use Rattle.kb_world.specs.declared.tree.Node.TheVariants as node
-use Rattle.kb_store.specs.Walking.{paths_below, entries, entry_block, passes_limit, meets, walk_on, is_dir_kind}
-use Rattle.kb_store.specs.declared.walking.Met.{Met}
-use Rattle.kb_store.specs.declared.walking.Walk.{Walk}
-use Rattle.kb_store.proofs.LookLaws.{Quiet}
-use Rattle.kb_store.proofs.WalkLaws.{below_entries, below_leaf}
+use Rattle.kb_walk.specs.Walking.{paths_below, entries, entry_block, passes_limit, meets, walk_on, is_dir_kind}
+use Rattle.kb_walk.specs.declared.walking.Met.{Met}
+use Rattle.kb_walk.specs.declared.walking.Walk.{Walk}
+use Rattle.kb_world.proofs.LookLaws.{Quiet}
+use Rattle.kb_walk.proofs.WalkLaws.{below_entries, below_leaf}
 
 -- ---- the walk
 

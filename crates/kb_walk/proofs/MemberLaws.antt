@@ -11,9 +11,9 @@ use Rattle.kb_world.specs.Path.{Path, path_cmp}
 use Rattle.kb_world.specs.Roots.{is_below}
 use Rattle.kb_world.specs.Tree.{Tree}
 use Rattle.kb_world.specs.TreeLaws.{same_path, same_path-true, same_path-refl, paths_total, paths_exact}
-use Rattle.kb_store.specs.Walking.{paths_below, entries}
-use Rattle.kb_store.proofs.OrderLaws.{less, in_front, untrue, rises, is_in, in_more, holds_of, in_rest}
-use Rattle.kb_store.proofs.WalkLaws.{rises_keys}
+use Rattle.kb_walk.specs.Walking.{paths_below, entries}
+use Rattle.kb_walk.proofs.OrderLaws.{less, in_front, untrue, rises, is_in, in_more, holds_of, in_rest}
+use Rattle.kb_walk.proofs.WalkLaws.{rises_keys}
 
 -- ---- the order of paths
 

@@ -17,8 +17,8 @@ use Rattle.kb_world.specs.declared.tree.Node.{Node}
 use Rattle.kb_world.proofs.PathLaws.{under-append, under-beside, drop-front}
 use Rattle.kb_world.proofs.StepLaws.{parent-child}
 use Rattle.kb_world.proofs.DamageLaws.{under-split}
-use Rattle.kb_store.specs.Walking.{paths_below}
-use Rattle.kb_store.proofs.OrderLaws.{untrue, rises, is_in, in_more, sole, is_beyond, beyond, heads, grouped, IsClosed, in_groups}
+use Rattle.kb_walk.specs.Walking.{paths_below}
+use Rattle.kb_walk.proofs.OrderLaws.{untrue, rises, is_in, in_more, sole, is_beyond, beyond, heads, grouped, IsClosed, in_groups}
 use Rattle.kb_world.proofs.PathLaws.{by_test}
 
 -- ---- the paths of a tree rise

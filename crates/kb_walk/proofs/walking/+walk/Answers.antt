@@ -1,9 +1,9 @@
 -- The walk goes on over the entries of a directory, in order.
 use Rattle.std.proofs.Common.{◌∙◌, sym, ap, length, ◌+◌, rules}
 use Rattle.kb_world.specs.Path.{child}
-use Rattle.kb_store.specs.Walking.{entry_block}
-use Rattle.kb_store.proofs.VisitLaws.{walk_over, entry_passed, entry_left, no_dir, visited_all}
-use Rattle.kb_store.proofs.walking.+walk.Goals as goal
+use Rattle.kb_walk.specs.Walking.{entry_block}
+use Rattle.kb_walk.proofs.VisitLaws.{walk_over, entry_passed, entry_left, no_dir, visited_all}
+use Rattle.kb_walk.proofs.walking.+walk.Goals as goal
 
 pub visit-returns-clause-met : goal.visit-returns-clause-met
 visit-returns-clause-met g t c tree told =
