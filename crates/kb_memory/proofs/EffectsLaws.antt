@@ -11,7 +11,7 @@ use Rattle.std.proofs.lemmas.Grind.{flat_map-append}
 use Rattle.kb_world.specs.Script.{Script}
 use Rattle.kb_world.specs.declared.child.EffectRow.{EffectRow}
 use Rattle.kb_world.specs.declared.child.Effect.{Effect}
-use Rattle.kb_memory.specs.Lost.{effects_of, changed_path, source_path, named_path}
+use Rattle.kb_memory.specs.Lost.{effects_of, changed_path, copied_path, named_path}
 
 got_left : {X : Type 0} (xs ys : List X) (i : ℕ) → i < length xs → slice_get (xs ++ ys) i ≡ slice_get xs i
 got_left [] ys i less = absurd (omega arith)
@@ -51,9 +51,9 @@ got (Some x) xs i less is some = ap Some is ∙ sym (slice_get-get_or xs i x.now
 -- ---- the path that a number names
 
 pub named_even : (rows : Script) (number : ℕ) (effect : Effect) → slice_get (effects_of rows) (number / 2) ≡ Some effect → number % 2 ≡ 0 → named_path rows number ≡ Some (changed_path effect)
-named_even rows number effect is even = λ i. option_map (cond (nat_eq (even i) 0) changed_path source_path) (is i)
+named_even rows number effect is even = λ i. option_map (cond (nat_eq (even i) 0) changed_path copied_path) (is i)
 
-pub named_odd : (rows : Script) (number : ℕ) (effect : Effect) → slice_get (effects_of rows) (number / 2) ≡ Some effect → (number % 2 ≡ 0 → ⊥) → named_path rows number ≡ Some (source_path effect)
+pub named_odd : (rows : Script) (number : ℕ) (effect : Effect) → slice_get (effects_of rows) (number / 2) ≡ Some effect → (number % 2 ≡ 0 → ⊥) → named_path rows number ≡ Some (copied_path effect)
 named_odd rows number effect is odd =
     let test : nat_eq (number % 2) 0 ≡ false = grind (arith, nat_tests) in
-    λ i. option_map (cond (test i) changed_path source_path) (is i)
+    λ i. option_map (cond (test i) changed_path copied_path) (is i)

@@ -15,7 +15,7 @@ use Rattle.kb_world.specs.declared.tree.Node.{Node}
 use Rattle.kb_world.specs.declared.tree.Node.TheVariants.{File}
 use Rattle.kb_world.proofs.LeftLaws.{left_same, left_edit}
 use Rattle.kb_disk.proofs.EffectLaws.{inside, undirected, can_edit-formed, lets}
-use Rattle.kb_memory.specs.Lost.{effects_of, changed_path, source_path, named_path, file_by, lost_node, can_lose, lost_at, lost}
+use Rattle.kb_memory.specs.Lost.{effects_of, changed_path, copied_path, named_path, file_by, lost_node, can_lose, lost_at, lost}
 
 -- ---- an image
 
@@ -100,7 +100,7 @@ module _ (script : Script) (few : length (effects_of script) ≤ 2 ^ 31) where
   named_within number path named = by_effect (slice_get (effects_of script) (number / 2)) refl named
     where
       by_effect : (effect : Option Effect) → slice_get (effects_of script) (number / 2) ≡ effect
-          → option_map (cond (nat_eq (number % 2) 0) changed_path source_path) effect ≡ Some path → number < 4294967296
+          → option_map (cond (nat_eq (number % 2) 0) changed_path copied_path) effect ≡ Some path → number < 4294967296
       by_effect None is named = absurd (cc)
       by_effect (Some effect) is named = let within : number / 2 < length (effects_of script) = slice_get_within (effects_of script) (number / 2) effect is in omega arith
 
@@ -132,10 +132,10 @@ pub names_changed : (script : Script) (i : ℕ) (effect : Effect) → slice_get 
 names_changed script i effect is =
     let a : (2 * i) % 2 ≡ 0 = omega arith in
     let b : (2 * i) / 2 ≡ i = omega arith in
-    (λ k. option_map (cond (nat_eq (a k) 0) changed_path source_path) (slice_get (effects_of script) (b k))) ∙ ap (option_map changed_path) is
+    (λ k. option_map (cond (nat_eq (a k) 0) changed_path copied_path) (slice_get (effects_of script) (b k))) ∙ ap (option_map changed_path) is
 
-pub names_source : (script : Script) (i : ℕ) (effect : Effect) → slice_get (effects_of script) i ≡ Some effect → named_path script (2 * i + 1) ≡ Some (source_path effect)
+pub names_source : (script : Script) (i : ℕ) (effect : Effect) → slice_get (effects_of script) i ≡ Some effect → named_path script (2 * i + 1) ≡ Some (copied_path effect)
 names_source script i effect is =
     let a : (2 * i + 1) % 2 ≡ 1 = omega arith in
     let b : (2 * i + 1) / 2 ≡ i = omega arith in
-    (λ k. option_map (cond (nat_eq (a k) 0) changed_path source_path) (slice_get (effects_of script) (b k))) ∙ ap (option_map source_path) is
+    (λ k. option_map (cond (nat_eq (a k) 0) changed_path copied_path) (slice_get (effects_of script) (b k))) ∙ ap (option_map copied_path) is

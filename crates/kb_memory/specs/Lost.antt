@@ -22,14 +22,14 @@ changed_path (effects.Copy from to) = to
 changed_path (effects.Remove path) = path
 
 -- the path that it copies, where it does; else the one that it changes
-abbrev pub source_path : Effect → Path
-source_path (effects.Write path bytes exec) = path
-source_path (effects.Copy from to) = from
-source_path (effects.Remove path) = path
+abbrev pub copied_path : Effect → Path
+copied_path (effects.Write path bytes exec) = path
+copied_path (effects.Copy from to) = from
+copied_path (effects.Remove path) = path
 
 -- the paths that effects name, each effect twice
 abbrev pub named_path : Script → ℕ → Option Path
-named_path script n = option_map (if nat_eq (n % 2) 0 then changed_path else source_path) (slice_get (effects_of script) (n / 2))
+named_path script n = option_map (if nat_eq (n % 2) 0 then changed_path else copied_path) (slice_get (effects_of script) (n / 2))
 
 -- the file that an effect writes; where it writes none, what stood there
 abbrev pub file_by : Option Effect → Option Node → Option Node

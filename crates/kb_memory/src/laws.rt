@@ -10,7 +10,7 @@ ghost use Rattle.kb_world.specs.declared.child.Effect.{Effect};
 ghost use Rattle.kb_world.specs.declared.child.Effect.TheVariants.{Write};
 ghost use Rattle.kb_world.specs.declared.tree.Node.TheVariants.{File};
 ghost use Rattle.kb_memory.specs.Calls.{CallPlan, fate_of, after_it, after_calls, halted, halted_put};
-ghost use Rattle.kb_memory.specs.Lost.{effects_of, changed_path, source_path, named_path, can_lose, lost};
+ghost use Rattle.kb_memory.specs.Lost.{effects_of, changed_path, copied_path, named_path, can_lose, lost};
 ghost use Rattle.kb_memory.specs.declared.calls.Fate.TheVariants.{Fails, Halts};
 
 /// Some choice leaves the tree before a halted call, and some the tree after it.
@@ -35,7 +35,7 @@ pub fn no_call_passes_after_a_halt()
 /// copies.
 pub fn each_effect_names_its_paths()
     ensures changed { (script : Script) (i : ℕ) (effect : Effect) → slice_get (effects_of script) i ≡ Some effect → named_path script (2 * i) ≡ Some (changed_path effect) }
-    ensures source { (script : Script) (i : ℕ) (effect : Effect) → slice_get (effects_of script) i ≡ Some effect → named_path script (2 * i + 1) ≡ Some (source_path effect) }
+    ensures source { (script : Script) (i : ℕ) (effect : Effect) → slice_get (effects_of script) i ≡ Some effect → named_path script (2 * i + 1) ≡ Some (copied_path effect) }
 {}
 
 /// At each path that can be lost some choice leaves nothing, and for each write of the script some choice leaves a file of

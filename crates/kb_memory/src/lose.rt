@@ -5,7 +5,7 @@ ghost use Rattle.std.specs.Option.{option_copied};
 ghost use Rattle.kb_world.specs.Script.{can_edit};
 ghost use Rattle.kb_world.specs.Tree.{node_at};
 ghost use Rattle.kb_disk.specs.Stored.{stored_of};
-ghost use Rattle.kb_memory.specs.Lost.{effects_of, changed_path, source_path, named_path, file_by, lost_node, can_lose, lost};
+ghost use Rattle.kb_memory.specs.Lost.{effects_of, changed_path, copied_path, named_path, file_by, lost_node, can_lose, lost};
 
 use kb_disk::{Disk, Nodes};
 use kb_world::{Area, Effect, EffectRow, Node, Path};
@@ -51,8 +51,8 @@ fn changed_path(effect: &Effect) -> &Path
     }
 }
 
-fn source_path(effect: &Effect) -> &Path
-    ensures { result.now ≡ source_path effect.now }
+fn copied_path(effect: &Effect) -> &Path
+    ensures { result.now ≡ copied_path effect.now }
 {
     match effect {
         Effect::Write { path, .. } => path,
@@ -69,7 +69,7 @@ fn named_path(rows: &[EffectRow], number: u64) -> Option<&Path>
         Some(effect) => Some(if number % 2 == 0 {
             changed_path(effect)
         } else {
-            source_path(effect)
+            copied_path(effect)
         }),
         None => None,
     }

@@ -105,7 +105,12 @@ pub fn run(
 }
 
 // Puts what a crash leaves by the choice in place of the world.
-fn lose(alloc: Global, world: &mut MemoryWorld, roots: &Roots, choice: u64) -> Result<(), AllocError> {
+fn lose(
+    alloc: Global,
+    world: &mut MemoryWorld,
+    roots: &Roots,
+    choice: u64,
+) -> Result<(), AllocError> {
     let none = MemoryWorld::new(alloc, roots.clone()?, Vec::new(alloc));
     let lost = mem::replace(world, none).lose(alloc, choice)?;
     *world = lost;

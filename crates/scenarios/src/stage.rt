@@ -107,7 +107,10 @@ fn act(
             let failures = mem::replace(&mut progress.failures, Failures::none(alloc));
             Ok(run(alloc, world, setting, &words, failures, page)?)
         }
-        Action::Halt(halted) => Ok(halt(alloc, world, setting, &host.roots, &halted, page)?),
+        Action::Halt(halted) => {
+            progress.failures = Failures::none(alloc);
+            Ok(halt(alloc, world, setting, &host.roots, &halted, page)?)
+        }
         Action::Show(show) => print(alloc, world, host, progress, show, page),
         Action::Ask(ask) => print_answer(alloc, page, &ask, &given_for(alloc, host)?),
     }

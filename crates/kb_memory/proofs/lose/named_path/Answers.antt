@@ -11,6 +11,6 @@ returns-after-number-eq0 c =
           ap (λ path. Some path.now) w.result-is ∙ ap (λ path. Some path) w.changed_path.ensures
           ∙ sym (named_even c.args.rows.now c.args.number effect (sym c.in-Some.ensures) w.if-number-eq0.true)
       | else-number-eq0 w ↦
-          ap (λ path. Some path.now) w.result-is ∙ ap (λ path. Some path) w.source_path.ensures
+          ap (λ path. Some path.now) w.result-is ∙ ap (λ path. Some path) w.copied_path.ensures
           ∙ sym (named_odd c.args.rows.now c.args.number effect (sym c.in-Some.ensures) w.if-number-eq0.false)
     ]
