@@ -1,0 +1,4 @@
+pub mod Change
+pub mod Groups
+pub mod Text
+pub mod Valid
