@@ -1,0 +1,7 @@
+mod PatchDone
+mod PatchForeign
+mod PatchParents
+mod PatchPlaces
+mod PatchPlain
+mod PatchPublic
+mod PatchPuts

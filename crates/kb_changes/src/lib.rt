@@ -3,5 +3,7 @@
 #![tactic(auto)]
 
 mod change;
+mod patch_laws;
 
 pub use change::{Change, Intent, Recovered, RootName};
+pub use patch_laws::a_patch_is_done;

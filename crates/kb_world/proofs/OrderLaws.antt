@@ -87,7 +87,7 @@ reverse-falls (path ∷ paths) s =
     subst IsFalling (sym (reverse_onto paths path [])) (falling-append (reverse paths) path (reverse-falls paths s.1) (all_reversed (λ other. path_cmp path other ≡ Less) paths s.0))
 
 -- what is behind isn't before
-less-once : (a b : Path) → path_cmp a b ≡ Less → path_cmp b a ≡ Less → ⊥
+pub less-once : (a b : Path) → path_cmp a b ≡ Less → path_cmp b a ≡ Less → ⊥
 less-once a b one two = let none : path_cmp a a ≡ Less = paths_total.trans a b a one two in let impossible : Equal ≡ Less = sym (tied_itself paths_total a) ∙ none in cc
 
 -- no path after it is that path, nor below it
@@ -139,7 +139,7 @@ same-any test a b alike = same_bool (list_any test (keys a)) (list_any test (key
 abbrev pub has_below : Path → Tree → Bool
 has_below path tree = list_any (λ other. is_below other path) (keys tree)
 
-below-other : (other path : Path) → is_below other path ≡ true → same_path other path ≡ false
+pub below-other : (other path : Path) → is_below other path ≡ true → same_path other path ≡ false
 below-other other path h = by_test (same_path other path) (λ s.
     let impossible : true ≡ false = sym (under-self path) ∙ ap (is_under path) (sym (same_path-true other path s)) ∙ not_true (is_under path other) (second_so (is_under other path) _ h) in cc)
   where

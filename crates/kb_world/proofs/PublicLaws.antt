@@ -10,6 +10,7 @@ use Rattle.kb_world.specs.Path.{Path, is_under, are_apart, child}
 use Rattle.kb_world.specs.Roots.{AreApart, based_roots, each_apart}
 use Rattle.kb_world.specs.Tree.{Tree, node_at, with_node, is_dir}
 use Rattle.kb_world.specs.TreeLaws.{paths_exact, same_path, same_path-true, node_at-with_node, same_tree}
+pub use Rattle.kb_world.specs.Public.{IsAlwaysPublic}
 use Rattle.kb_world.specs.Public.{is_public, is_private, is_loose, public_tree, foreign_tree}
 use Rattle.kb_world.specs.StorePath.{told_by, is_in_scratch}
 use Rattle.kb_world.specs.declared.roots.Roots.{Roots}
@@ -40,10 +41,6 @@ written_apart roots h =
       src_modules = first_so (are_apart roots.src roots.modules) _ src;
       src_boot = apart-back roots.boot roots.src (first_so (are_apart roots.boot roots.src) _ (second_so (are_apart roots.boot roots.dkms) _ boot));
     }
-
--- whatever stands at the path, it is public
-abbrev pub IsAlwaysPublic : Roots → Path → Type 0
-IsAlwaysPublic roots path = (at : Option Node) → is_public roots path at ≡ true
 
 -- names below a root that aren't the tool's own begin with a letter or digit
 abbrev pub begins_plainly : Path → Bool

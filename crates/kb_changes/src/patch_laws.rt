@@ -1,0 +1,23 @@
+// Laws of patches and their changes: each is the contract of a function that does nothing, so that its proof is asked
+// for.
+ghost use Rattle.std.specs.Prelude.{◌≡◌};
+ghost use Rattle.kb_world.specs.Patch.{Patch, patched};
+ghost use Rattle.kb_world.specs.Public.{public_tree, foreign_tree};
+ghost use Rattle.kb_world.specs.Roots.{AreApart};
+ghost use Rattle.kb_world.specs.Script.{Script};
+ghost use Rattle.kb_world.specs.Tree.{Tree};
+ghost use Rattle.kb_world.specs.declared.roots.Roots.{Roots};
+ghost use Rattle.kb_changes.specs.Change.{done};
+ghost use Rattle.kb_changes.specs.Changes.{changes_of, nodes_of, HasStaged};
+ghost use Rattle.kb_changes.specs.Fit.{IsFit};
+
+/// Where a patch fits a tree and its nodes are staged there, doing its changes makes of the public tree what the patch
+/// makes of it, and leaves the foreign tree.
+pub fn a_patch_is_done()
+    ensures done { (roots : Roots) → AreApart roots → (script : Script) (patch : Patch) (tree : Tree) → IsFit roots patch tree →
+        HasStaged roots (nodes_of roots patch) tree →
+        public_tree roots (done roots script (changes_of roots patch) tree) ≡ patched roots patch (public_tree roots tree) }
+    ensures foreign { (roots : Roots) → AreApart roots → (script : Script) (patch : Patch) (tree : Tree) → IsFit roots patch tree →
+        HasStaged roots (nodes_of roots patch) tree →
+        foreign_tree roots (done roots script (changes_of roots patch) tree) ≡ foreign_tree roots tree }
+{}
