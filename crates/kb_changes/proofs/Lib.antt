@@ -1,3 +1,5 @@
+pub mod GroupLaws
+pub mod NumberLaws
 mod PatchDone
 mod PatchForeign
 mod PatchParents
@@ -5,3 +7,6 @@ mod PatchPlaces
 mod PatchPlain
 mod PatchPublic
 mod PatchPuts
+pub mod RunLaws
+pub mod SetLaws
+pub mod StepLaws

@@ -46,7 +46,7 @@ done roots script changes tree = fold (λ now change. do_change roots script cha
 abbrev pub request_at : Change → Tree → List Request
 request_at (Run request) tree = cond (is_dir (node_at tree request.dir)) (request ∷ []) []
 request_at (Dir path) tree = []
-request_at (Put root number target) tree = []
+request_at (Put _ number target) tree = []
 request_at (Drop path) tree = []
 request_at (DropDir path) tree = []
 request_at (Wipe path) tree = []

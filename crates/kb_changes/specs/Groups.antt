@@ -7,6 +7,8 @@ use Rattle.kb_world.specs.declared.roots.Roots.{Roots}
 use Rattle.kb_changes.specs.Change.{staged_path}
 use Rattle.kb_changes.specs.declared.change.Change.{Change}
 use Rattle.kb_changes.specs.declared.change.Change.TheVariants.{Dir, Put, Drop, DropDir, Wipe, Run}
+use Rattle.kb_changes.specs.declared.group.Group.{Group}
+use Rattle.kb_changes.specs.declared.group.Group.TheVariants as group
 
 -- the path that a Drop takes away; likewise each that follows, of its kind
 abbrev pub drop_of : Change → Option Path
@@ -27,7 +29,7 @@ dir_of other = None
 
 -- where a Put puts
 abbrev pub target_of : Change → Option Path
-target_of (Put root number target) = Some target
+target_of (Put _ number target) = Some target
 target_of other = None
 
 -- the staged place that a Put moves away
@@ -42,7 +44,7 @@ run_of other = None
 -- a Dir or a Put, which stands between the two groups of DropDirs
 abbrev pub makes : Change → Bool
 makes (Dir path) = true
-makes (Put root number target) = true
+makes (Put _ number target) = true
 makes (Drop path) = false
 makes (DropDir path) = false
 makes (Wipe path) = false
@@ -78,3 +80,11 @@ staged_in roots changes = filter_map (staged_of roots) changes
 
 abbrev pub runs_in : List Change → List Request
 runs_in changes = filter_map run_of changes
+
+-- the path of a change that is of this group
+abbrev pub path_in : Group → Change → Option Path
+path_in group.Drops change = drop_of change
+path_in group.Wipes change = wipe_of change
+path_in group.DropDirs change = drop_dir_of change
+path_in group.Dirs change = dir_of change
+path_in group.Targets change = target_of change

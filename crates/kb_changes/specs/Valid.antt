@@ -1,5 +1,5 @@
 -- When the changes of a transaction are valid: then doing them twice is doing them once. This project's own.
-use Rattle.std.specs.Prelude.{ℕ, Bool, true, false, ◌&&◌, ◌||◌, not, cond, List, [], ◌∷◌, length, drop, nat_eq, nat_le, codes, bytes_eq, Option, Some, None}
+use Rattle.std.specs.Prelude.{◌≡◌, ℕ, Bool, true, false, ◌&&◌, ◌||◌, not, cond, List, [], ◌∷◌, length, drop, nat_eq, nat_le, codes, bytes_eq, Option, Some, None}
 use Rattle.std.specs.List.{list_all, list_any, starts_with}
 use Rattle.std.specs.Cmp.Lexicographic.{pointwise}
 use Rattle.kb_world.specs.Names.{is_word, is_version, is_kernel}
@@ -53,6 +53,10 @@ are_ordered changes =
 abbrev pub is_among_paths : List Path → Path → Bool
 is_among_paths paths path = list_any (same_path path) paths
 
+-- they are lists of the same paths
+abbrev pub HoldSame : List Path → List Path → Type 0
+HoldSame a b = (path : Path) → is_among_paths a path ≡ is_among_paths b path
+
 -- none of the paths is one of the others
 abbrev pub none_among : List Path → List Path → Bool
 none_among others paths = list_all (λ path. not (is_among_paths others path)) paths
@@ -84,13 +88,16 @@ is_version_dir roots path = is_under path roots.dkms && are_version_names (drop 
 abbrev pub is_scratch_wiped : Roots → List Path → Path → Bool
 is_scratch_wiped roots wipes path = not (is_version_dir roots path) || is_among_paths wipes (child path (codes "build"))
 
--- No target is wiped, dropped or a DropDir behind it; targets differ, and so do staged places; no Dir is wiped; no second
--- DropDir is below a first one; and a version's directory goes only with its scratch tree.
-abbrev pub are_compatible : Roots → List Change → Bool
-are_compatible roots changes =
+-- no target is wiped, dropped or a DropDir behind it; targets differ, and so do staged places
+abbrev pub are_targets_kept : Roots → List Change → Bool
+are_targets_kept roots changes =
     none_under (wipes_in changes) (targets_in changes) && none_among (drops_in changes) (targets_in changes)
     && none_among (second_drop_dirs changes) (targets_in changes) && all_differ (targets_in changes) && all_differ (staged_in roots changes)
-    && none_under (wipes_in changes) (dirs_in changes) && none_below (first_drop_dirs changes) (second_drop_dirs changes)
+
+-- no Dir is wiped; no second DropDir is below a first one; and a version's directory goes only with its scratch tree
+abbrev pub are_dirs_kept : Roots → List Change → Bool
+are_dirs_kept roots changes =
+    none_under (wipes_in changes) (dirs_in changes) && none_below (first_drop_dirs changes) (second_drop_dirs changes)
     && list_all (is_scratch_wiped roots (wipes_in changes)) (drop_dirs_in changes)
 
 -- ---- where changes are made
@@ -132,6 +139,9 @@ is_well_placed roots (DropDir path) = is_changeable roots path
 is_well_placed roots (Wipe path) = is_changeable roots path
 is_well_placed roots (Run request) = true
 
+abbrev pub are_well_placed : Roots → List Change → Bool
+are_well_placed roots changes = list_all (is_well_placed roots) changes
+
 -- ---- what a child may change
 
 abbrev pub same_paths : List Path → List Path → Bool
@@ -153,8 +163,11 @@ is_fit_area roots drops request (areas.Names directory names) =
 abbrev pub is_fit_run : Roots → List Path → Request → Bool
 is_fit_run roots drops request = is_fit_area roots drops request request.area
 
+abbrev pub are_fit_runs : Roots → List Change → Bool
+are_fit_runs roots changes = list_all (is_fit_run roots (drops_in changes)) (runs_in changes)
+
 -- ---- all of it
 
 abbrev pub is_valid : Roots → List Change → Bool
 is_valid roots changes =
-    are_ordered changes && are_compatible roots changes && list_all (is_well_placed roots) changes && list_all (is_fit_run roots (drops_in changes)) (runs_in changes)
+    are_ordered changes && are_targets_kept roots changes && are_dirs_kept roots changes && are_well_placed roots changes && are_fit_runs roots changes

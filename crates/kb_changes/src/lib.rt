@@ -3,7 +3,16 @@
 #![tactic(auto)]
 
 mod change;
+mod group;
+mod ordered;
 mod patch_laws;
+mod path_set;
+mod placed;
+mod roots;
+mod runs;
+mod valid;
 
 pub use change::{Change, Intent, Recovered, RootName};
 pub use patch_laws::a_patch_is_done;
+pub use roots::staged_path;
+pub use valid::is_valid;
