@@ -49,7 +49,7 @@ all_listed P (path ∷ paths) each =
     (each path (ap (λ b. b || is_listed path paths) (same_path-refl path)), all_listed P paths (λ q listed. each q (or_right (same_path q path) (is_listed q paths) listed)))
 
 -- each put's target is among the targets
-self_listed : (puts : List (Path × Node)) → AllByRecursion (λ (put : Path × Node). is_listed put.0 (map (λ (p : Path × Node). p.0) puts) ≡ true) puts
+pub self_listed : (puts : List (Path × Node)) → AllByRecursion (λ (put : Path × Node). is_listed put.0 (map (λ (p : Path × Node). p.0) puts) ≡ true) puts
 self_listed [] = tt
 self_listed (put ∷ puts) = (
   ap (λ b. b || is_listed put.0 (map (λ (p : Path × Node). p.0) puts)) (same_path-refl put.0),
@@ -68,7 +68,7 @@ no_put P q h (put ∷ puts) none = by (same_path q put.0) refl (no_put P q h put
 
 -- ---- what is dropped and not put again
 
-drops_listed : (patch : Patch) (q : Path) → put_at q patch.puts ≡ None → is_listed q (drops_of patch) ≡ is_listed q patch.drops
+pub drops_listed : (patch : Patch) (q : Path) → put_at q patch.puts ≡ None → is_listed q (drops_of patch) ≡ is_listed q patch.drops
 drops_listed patch q none =
     any-filter_same (same_path q) (λ path. not (is_some (put_at path patch.puts))) true
     (λ path s. ap (λ p. not (is_some (put_at p patch.puts))) (sym (same_path-true q path s)) ∙ ap (λ o. not (is_some o)) none) patch.drops

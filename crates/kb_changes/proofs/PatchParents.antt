@@ -1,9 +1,9 @@
 -- Directories that are listed in order have parents when their turn comes.
-use Rattle.std.proofs.Common.{◌≡◌, ◌≢◌, ◌⊎◌, ℕ, Bool, true, false, cond, ◌&&◌, ◌||◌, not, List, [], ◌∷◌, ◌++◌, length, drop, map, Option, Some, None, is_some, refl, sym, ap, ◌∙◌, subst, inl, inr, append_assoc}
+use Rattle.std.proofs.Common.{◌≡◌, ◌≢◌, ◌⊎◌, ℕ, zero, suc, Bool, true, false, cond, ◌&&◌, ◌||◌, not, List, [], ◌∷◌, ◌++◌, length, drop, map, Option, Some, None, is_some, refl, sym, ap, ◌∙◌, subst, inl, inr, append_assoc}
 use Rattle.std.proofs.lemmas.List.{append_cancel_left}
 use Rattle.std.proofs.lemmas.List.Sums.{fold-append}
 use Rattle.std.specs.Prelude.{bytes_eq, flat_map, filter}
-use Rattle.std.specs.List.{list_all, list_any, AllByRecursion}
+use Rattle.std.specs.List.{list_all, list_any, slice_get, AllByRecursion}
 use Rattle.std.specs.Option.{option_or}
 use Rattle.std.specs.Cmp.{first_so, second_so}
 use Rattle.std.specs.Cmp.Derive.{both_true}
@@ -27,6 +27,7 @@ use Rattle.kb_world.proofs.AboveLaws.{above-below, each-listed}
 use Rattle.kb_world.proofs.PublicLaws.{WrittenApart, written_apart}
 use Rattle.kb_changes.specs.Change.{do_change, done}
 use Rattle.kb_changes.specs.Fit.{is_rooted}
+use Rattle.kb_changes.specs.Valid.{written_roots}
 use Rattle.kb_changes.specs.declared.change.Change.TheVariants.{Dir}
 
 -- ---- a path and its parent
@@ -164,11 +165,18 @@ directories-over base (name ∷ next ∷ rest) q e = by (either (same_path q (ch
     by (inl s) more = ap (λ p. is_below p base) (same_path-true q (child base name) s) ∙ below-append base name []
     by (inr later) more = below-trans q (child base name) base (more later) (below-append base name [])
 
--- a path that lies below a root whose directory stands, and which directories are above it
-pub record RootedAt (roots : Roots) (tree : Tree) (path : Path) : Type 0 where
+-- the n-th path of a list is one of it
+pub nth_listed : (paths : List Path) (n : ℕ) (q : Path) → slice_get paths n ≡ Some q → is_listed q paths ≡ true
+nth_listed [] n q e = let impossible : None ≡ Some q = e in absurd (cc)
+nth_listed (path ∷ paths) zero q e = let is : q ≡ path = cc in ap (λ p. same_path q p || is_listed q paths) (sym is) ∙ ap (λ b. b || is_listed q paths) (same_path-refl q)
+nth_listed (path ∷ paths) (suc n) q e = or_right (same_path q path) (is_listed q paths) (nth_listed paths n q e)
+
+-- a path that lies below a root that passes a test, and which directories are above it
+pub record RootedAt (roots : Roots) (test : Path → Bool) (path : Path) : Type 0 where
   pub root : Path
+  pub written : is_listed root (written_roots roots) ≡ true
   pub below : is_below path root ≡ true
-  pub stands : is_dir (node_at tree root) ≡ true
+  pub passes : test root ≡ true
   pub above_is : above roots path ≡ directories_to root (drop (length root) path)
 
 pub modules_boot : (roots : Roots) → AreApart roots → are_apart roots.modules roots.boot ≡ true
@@ -176,61 +184,61 @@ modules_boot roots apart =
     let boot = first_so (list_all (are_apart roots.boot) (based_roots roots)) _ (first_so (each_apart (roots.boot ∷ based_roots roots)) _ apart) in
     apart-back roots.boot roots.modules (first_so (are_apart roots.boot roots.modules) _ (second_so (are_apart roots.boot roots.src) _ (second_so (are_apart roots.boot roots.dkms) _ boot)))
 
-pub rooted_at : (roots : Roots) → AreApart roots → (tree : Tree) (path : Path) → is_rooted roots tree path ≡ true → RootedAt roots tree path
-rooted_at roots apart tree path h = by_dkms (either (is_below path roots.dkms && is_dir (node_at tree roots.dkms)) _ h)
+pub rooted_at : (roots : Roots) → AreApart roots → (test : Path → Bool) (path : Path) → list_any (λ root. is_below path root && test root) (written_roots roots) ≡ true → RootedAt roots test path
+rooted_at roots apart test path h = by_dkms (either (is_below path roots.dkms && test roots.dkms) _ h)
   where
     w : WrittenApart roots
     w = written_apart roots apart
 
-    made : (root : Path) → (is_below path root && is_dir (node_at tree root)) ≡ true → (is_under path root ≡ true → above roots path ≡ directories_to root (drop (length root) path)) → RootedAt roots tree path
-    made root e is =
-        let below = first_so (is_below path root) (is_dir (node_at tree root)) e in
-        record { root = root; below = below; stands = second_so (is_below path root) (is_dir (node_at tree root)) e; above_is = is (first_so (is_under path root) _ below) }
+    made : (n : ℕ) (root : Path) → slice_get (written_roots roots) n ≡ Some root → (is_below path root && test root) ≡ true → (is_under path root ≡ true → above roots path ≡ directories_to root (drop (length root) path)) → RootedAt roots test path
+    made n root at e is =
+        let below = first_so (is_below path root) (test root) e in
+        record { root = root; written = nth_listed (written_roots roots) n root at; below = below; passes = second_so (is_below path root) (test root) e; above_is = is (first_so (is_under path root) _ below) }
 
-    at_boot : (is_below path roots.boot && is_dir (node_at tree roots.boot)) ≡ true → RootedAt roots tree path
-    at_boot e = made roots.boot e (λ u.
+    at_boot : (is_below path roots.boot && test roots.boot) ≡ true → RootedAt roots test path
+    at_boot e = made 3 roots.boot refl e (λ u.
         ap (λ b. cond b (directories_to roots.dkms (drop (length roots.dkms) path)) (above_in (roots.src ∷ roots.modules ∷ roots.boot ∷ []) path)) (elsewhere path roots.boot roots.dkms (apart-back roots.dkms roots.boot w.dkms_boot) u)
         ∙ ap (λ b. cond b (directories_to roots.src (drop (length roots.src) path)) (above_in (roots.modules ∷ roots.boot ∷ []) path)) (elsewhere path roots.boot roots.src (apart-back roots.src roots.boot w.src_boot) u)
         ∙ ap (λ b. cond b (directories_to roots.modules (drop (length roots.modules) path)) (above_in (roots.boot ∷ []) path)) (elsewhere path roots.boot roots.modules (apart-back roots.modules roots.boot (modules_boot roots apart)) u)
         ∙ ap (λ b. cond b (directories_to roots.boot (drop (length roots.boot) path)) []) u)
 
-    by_boot : ((is_below path roots.boot && is_dir (node_at tree roots.boot)) ≡ true) ⊎ (false ≡ true) → RootedAt roots tree path
+    by_boot : ((is_below path roots.boot && test roots.boot) ≡ true) ⊎ (false ≡ true) → RootedAt roots test path
     by_boot (inl e) = at_boot e
     by_boot (inr e) = absurd (untrue e)
 
-    by_modules : ((is_below path roots.modules && is_dir (node_at tree roots.modules)) ≡ true) ⊎ (list_any (λ root. is_below path root && is_dir (node_at tree root)) (roots.boot ∷ []) ≡ true) → RootedAt roots tree path
-    by_modules (inl e) = made roots.modules e (λ u.
+    by_modules : ((is_below path roots.modules && test roots.modules) ≡ true) ⊎ (list_any (λ root. is_below path root && test root) (roots.boot ∷ []) ≡ true) → RootedAt roots test path
+    by_modules (inl e) = made 2 roots.modules refl e (λ u.
         ap (λ b. cond b (directories_to roots.dkms (drop (length roots.dkms) path)) (above_in (roots.src ∷ roots.modules ∷ roots.boot ∷ []) path)) (elsewhere path roots.modules roots.dkms (apart-back roots.dkms roots.modules w.dkms_modules) u)
         ∙ ap (λ b. cond b (directories_to roots.src (drop (length roots.src) path)) (above_in (roots.modules ∷ roots.boot ∷ []) path)) (elsewhere path roots.modules roots.src (apart-back roots.src roots.modules w.src_modules) u)
         ∙ ap (λ b. cond b (directories_to roots.modules (drop (length roots.modules) path)) (above_in (roots.boot ∷ []) path)) u)
-    by_modules (inr e) = by_boot (either (is_below path roots.boot && is_dir (node_at tree roots.boot)) false e)
+    by_modules (inr e) = by_boot (either (is_below path roots.boot && test roots.boot) false e)
 
-    by_src : ((is_below path roots.src && is_dir (node_at tree roots.src)) ≡ true) ⊎ (list_any (λ root. is_below path root && is_dir (node_at tree root)) (roots.modules ∷ roots.boot ∷ []) ≡ true) → RootedAt roots tree path
-    by_src (inl e) = made roots.src e (λ u.
+    by_src : ((is_below path roots.src && test roots.src) ≡ true) ⊎ (list_any (λ root. is_below path root && test root) (roots.modules ∷ roots.boot ∷ []) ≡ true) → RootedAt roots test path
+    by_src (inl e) = made 1 roots.src refl e (λ u.
         ap (λ b. cond b (directories_to roots.dkms (drop (length roots.dkms) path)) (above_in (roots.src ∷ roots.modules ∷ roots.boot ∷ []) path)) (elsewhere path roots.src roots.dkms (apart-back roots.dkms roots.src w.dkms_src) u)
         ∙ ap (λ b. cond b (directories_to roots.src (drop (length roots.src) path)) (above_in (roots.modules ∷ roots.boot ∷ []) path)) u)
-    by_src (inr e) = by_modules (either (is_below path roots.modules && is_dir (node_at tree roots.modules)) _ e)
+    by_src (inr e) = by_modules (either (is_below path roots.modules && test roots.modules) _ e)
 
-    by_dkms : ((is_below path roots.dkms && is_dir (node_at tree roots.dkms)) ≡ true) ⊎ (list_any (λ root. is_below path root && is_dir (node_at tree root)) (roots.src ∷ roots.modules ∷ roots.boot ∷ []) ≡ true) → RootedAt roots tree path
-    by_dkms (inl e) = made roots.dkms e (λ u. ap (λ b. cond b (directories_to roots.dkms (drop (length roots.dkms) path)) (above_in (roots.src ∷ roots.modules ∷ roots.boot ∷ []) path)) u)
-    by_dkms (inr e) = by_src (either (is_below path roots.src && is_dir (node_at tree roots.src)) _ e)
+    by_dkms : ((is_below path roots.dkms && test roots.dkms) ≡ true) ⊎ (list_any (λ root. is_below path root && test root) (roots.src ∷ roots.modules ∷ roots.boot ∷ []) ≡ true) → RootedAt roots test path
+    by_dkms (inl e) = made 0 roots.dkms refl e (λ u. ap (λ b. cond b (directories_to roots.dkms (drop (length roots.dkms) path)) (above_in (roots.src ∷ roots.modules ∷ roots.boot ∷ []) path)) u)
+    by_dkms (inr e) = by_src (either (is_below path roots.src && test roots.src) _ e)
 
 -- the parent of such a path is a root that stands, or stands above the path
 abbrev pub HasPlace : Roots → Tree → List Path → Path → Type 0
 HasPlace roots tree paths path = (is_dir (node_at tree path) ≡ true) ⊎ (is_listed path paths ≡ true)
 
-pub parent_place : (roots : Roots) (tree : Tree) (path : Path) → RootedAt roots tree path → HasPlace roots tree (above roots path) (parent path)
+pub parent_place : (roots : Roots) (tree : Tree) (path : Path) → RootedAt roots (λ root. is_dir (node_at tree root)) path → HasPlace roots tree (above roots path) (parent path)
 parent_place roots tree path r = by (has_parent path r.root r.below).place
   where
     by : (parent path ≡ r.root) ⊎ (is_below (parent path) r.root ≡ true) → HasPlace roots tree (above roots path) (parent path)
-    by (inl same) = inl (ap (λ p. is_dir (node_at tree p)) same ∙ r.stands)
+    by (inl same) = inl (ap (λ p. is_dir (node_at tree p)) same ∙ r.passes)
     by (inr below) =
         inr (ap (is_listed (parent path)) r.above_is
         ∙ listed-directories r.root (drop (length r.root) path) (parent path) below
         (ap (λ p. is_below p (parent path)) (sym (under-split path r.root (first_so (is_under path r.root) _ r.below))) ∙ (has_parent path r.root r.below).over))
 
 -- and so is that of each directory above it
-pub above_place : (roots : Roots) (tree : Tree) (path q : Path) → RootedAt roots tree path → is_listed q (above roots path) ≡ true → HasPlace roots tree (above roots path) (parent q)
+pub above_place : (roots : Roots) (tree : Tree) (path q : Path) → RootedAt roots (λ root. is_dir (node_at tree root)) path → is_listed q (above roots path) ≡ true → HasPlace roots tree (above roots path) (parent q)
 above_place roots tree path q r listed = by (has_parent q r.root below).place
   where
     below : is_below q r.root ≡ true
@@ -240,7 +248,7 @@ above_place roots tree path q r listed = by (has_parent q r.root below).place
     over = below-trans path q (parent q) (above-below roots path q listed) (has_parent q r.root below).over
 
     by : (parent q ≡ r.root) ⊎ (is_below (parent q) r.root ≡ true) → HasPlace roots tree (above roots path) (parent q)
-    by (inl same) = inl (ap (λ p. is_dir (node_at tree p)) same ∙ r.stands)
+    by (inl same) = inl (ap (λ p. is_dir (node_at tree p)) same ∙ r.passes)
     by (inr further) =
         inr (ap (is_listed (parent q)) r.above_is
         ∙ listed-directories r.root (drop (length r.root) path) (parent q) further
@@ -269,8 +277,8 @@ module _ (roots : Roots) (apart : AreApart roots) (patch : Patch) (tree : Tree) 
   abbrev sources : List Path
   sources = patch.dirs ++ map (λ put. put.0) patch.puts
 
-  root_at : (path : Path) → is_listed path sources ≡ true → RootedAt roots tree path
-  root_at path listed = rooted_at roots apart tree path (each-listed (λ p. is_rooted roots tree p ≡ true) sources rooted path listed)
+  root_at : (path : Path) → is_listed path sources ≡ true → RootedAt roots (λ root. is_dir (node_at tree root)) path
+  root_at path listed = rooted_at roots apart (λ root. is_dir (node_at tree root)) path (each-listed (λ p. is_rooted roots tree p ≡ true) sources rooted path listed)
 
   dir_listed : (q : Path) → is_listed q (flat_map (above roots) sources) ≡ true → is_listed q (dirs_of roots patch) ≡ true
   dir_listed q e = listed-in_order q (flat_map (above roots) sources ++ patch.dirs) ∙ listed-append q (flat_map (above roots) sources) patch.dirs ∙ ap (λ b. b || is_listed q patch.dirs) e

@@ -30,9 +30,9 @@ use Rattle.kb_changes.specs.Valid.{is_version_dir, are_version_names, written_ro
 use Rattle.kb_changes.specs.Fit.{IsFitWipe}
 use Rattle.kb_changes.specs.declared.change.RootName.{RootName}
 use Rattle.kb_changes.specs.declared.change.RootName.TheVariants as root_name
-use Rattle.kb_changes.proofs.PatchParents.{not_true, or_right, either, found-flat_map, directories-over, modules_boot}
+use Rattle.kb_changes.proofs.PatchParents.{not_true, or_right, nth_listed, either, found-flat_map, directories-over, modules_boot}
 use Rattle.kb_changes.proofs.PatchForeign.{IsNeverForeign, public-own, private-own}
-use Rattle.kb_changes.proofs.PatchPuts.{nth_listed, root-under, staged_private, open_no_private}
+use Rattle.kb_changes.proofs.PatchPuts.{root-under, staged_private, open_no_private}
 
 untrue : false ≡ true → ⊥
 untrue e = cc
@@ -238,7 +238,7 @@ module _ (roots : Roots) (apart : AreApart roots) where
 
   -- ---- directories that may be left empty
 
-  found-filter : (test : Path → Bool) (paths : List Path) (q : Path) → is_listed q (filter test paths) ≡ true → (test q ≡ true) × (is_listed q paths ≡ true)
+  pub found-filter : (test : Path → Bool) (paths : List Path) (q : Path) → is_listed q (filter test paths) ≡ true → (test q ≡ true) × (is_listed q paths ≡ true)
   found-filter test [] q e = absurd (untrue e)
   found-filter test (p ∷ paths) q e = by (test p) refl e (λ later. found-filter test paths q later)
     where

@@ -24,7 +24,7 @@ use Rattle.kb_changes.specs.declared.change.Change.TheVariants.{Put}
 use Rattle.kb_changes.specs.declared.change.RootName.{RootName}
 use Rattle.kb_changes.specs.declared.change.RootName.TheVariants as root_name
 use Rattle.kb_world.proofs.OrderLaws.{any-of}
-use Rattle.kb_changes.proofs.PatchParents.{or_right, modules_boot}
+use Rattle.kb_changes.proofs.PatchParents.{or_right, nth_listed, modules_boot}
 use Rattle.kb_changes.proofs.PatchPublic.{IsNeverPublic, public-moved}
 use Rattle.kb_changes.proofs.PatchForeign.{foreign-moved}
 
@@ -34,11 +34,6 @@ untrue e = cc
 -- ---- the staged places
 
 -- they are the tool's own
-pub nth_listed : (paths : List Path) (n : ℕ) (q : Path) → slice_get paths n ≡ Some q → is_listed q paths ≡ true
-nth_listed [] n q e = let impossible : None ≡ Some q = e in absurd (cc)
-nth_listed (path ∷ paths) zero q e = let is : q ≡ path = cc in ap (λ p. same_path q p || is_listed q paths) (sym is) ∙ ap (λ b. b || is_listed q paths) (same_path-refl q)
-nth_listed (path ∷ paths) (suc n) q e = or_right (same_path q path) (is_listed q paths) (nth_listed paths n q e)
-
 pub staged_private : (roots : Roots) (base : RootName) (number : ℕ) → is_private roots (staged_path roots base number) ≡ true
 staged_private roots base number =
     ap (λ b. b || is_in_scratch (store_path roots (staged_path roots base number)))
@@ -123,12 +118,12 @@ filter-append test (x ∷ a) b = by (test x) (filter-append test a b)
     by true e = ap (λ l. x ∷ l) e
     by false e = e
 
-below-append-nodes : (roots : Roots) (base : RootName) (a b : List (Path × Node)) → nodes_below roots base (a ++ b) ≡ nodes_below roots base a ++ nodes_below roots base b
+pub below-append-nodes : (roots : Roots) (base : RootName) (a b : List (Path × Node)) → nodes_below roots base (a ++ b) ≡ nodes_below roots base a ++ nodes_below roots base b
 below-append-nodes roots base a b =
     ap (map (λ (put : Path × Node). put.1)) (filter-append (λ put. same_root (root_of roots put.0) base) a b)
     ∙ map-append (λ (put : Path × Node). put.1) (filter (λ put. same_root (root_of roots put.0) base) a) (filter (λ put. same_root (root_of roots put.0) base) b)
 
-own_node : (roots : Roots) (put : Path × Node) (puts : List (Path × Node)) → nodes_below roots (root_of roots put.0) (put ∷ puts) ≡ put.1 ∷ nodes_below roots (root_of roots put.0) puts
+pub own_node : (roots : Roots) (put : Path × Node) (puts : List (Path × Node)) → nodes_below roots (root_of roots put.0) (put ∷ puts) ≡ put.1 ∷ nodes_below roots (root_of roots put.0) puts
 own_node roots put puts =
     ap (λ b. map (λ (p : Path × Node). p.1) (cond b (put ∷ filter (λ p. same_root (root_of roots p.0) (root_of roots put.0)) puts) (filter (λ p. same_root (root_of roots p.0) (root_of roots put.0)) puts))) (same_root-refl (root_of roots put.0))
 
@@ -152,6 +147,20 @@ are_staged roots whole earlier (put ∷ puts) tree is all = (
 
 pub staged_for : (roots : Roots) (dirs_puts : List (Path × Node)) (staged : Staged) (tree : Tree) → ((base : RootName) → staged_below staged base ≡ nodes_below roots base dirs_puts) → HasStaged roots staged tree → AreStaged roots [] dirs_puts tree
 staged_for roots puts staged tree is all = are_staged roots puts [] puts tree refl (λ base number node got. all base number node (ap (λ l. slice_get l number) (is base) ∙ got))
+
+-- ---- numbers rise
+
+pub count-most : (roots : Roots) (base : RootName) (puts : List (Path × Node)) → length (nodes_below roots base puts) ≤ length puts
+count-most roots base [] = omega arith
+count-most roots base (put ∷ puts) = by (same_root (root_of roots put.0) base) (count-most roots base puts)
+  where
+    by : (b : Bool) → length (nodes_below roots base puts) ≤ length puts
+        → length (map (λ (p : Path × Node). p.1) (cond b (put ∷ filter (λ p. same_root (root_of roots p.0) base) puts) (filter (λ p. same_root (root_of roots p.0) base) puts))) ≤ length (put ∷ puts)
+    by true h = omega arith
+    by false h = omega arith
+
+pub count-grows : (roots : Roots) (base : RootName) (a b : List (Path × Node)) → length (nodes_below roots base a) ≤ length (nodes_below roots base (a ++ b))
+count-grows roots base a b = omega (arith, ap length (below-append-nodes roots base a b), length-append (nodes_below roots base a) (nodes_below roots base b))
 
 -- ---- one put
 
@@ -264,23 +273,6 @@ module _ (roots : Roots) (apart : AreApart roots) (script : Script) where
   all_ready_kept tree base number put [] r there all = tt
   all_ready_kept tree base number put (next ∷ puts) r there all = (ready_kept tree base number put next r there all.0, all_ready_kept tree base number put puts r there all.1)
 
-  -- ---- numbers rise
-
-  count : RootName → List (Path × Node) → ℕ
-  count base puts = length (nodes_below roots base puts)
-
-  count-most : (base : RootName) (puts : List (Path × Node)) → length (nodes_below roots base puts) ≤ length puts
-  count-most base [] = omega arith
-  count-most base (put ∷ puts) = by (same_root (root_of roots put.0) base) (count-most base puts)
-    where
-      by : (b : Bool) → length (nodes_below roots base puts) ≤ length puts
-          → length (map (λ (p : Path × Node). p.1) (cond b (put ∷ filter (λ p. same_root (root_of roots p.0) base) puts) (filter (λ p. same_root (root_of roots p.0) base) puts))) ≤ length (put ∷ puts)
-      by true h = omega arith
-      by false h = omega arith
-
-  count-grows : (base : RootName) (a b : List (Path × Node)) → length (nodes_below roots base a) ≤ length (nodes_below roots base (a ++ b))
-  count-grows base a b = omega (arith, ap length (below-append-nodes roots base a b), length-append (nodes_below roots base a) (nodes_below roots base b))
-
   -- what is staged for later puts stays staged
   staged_kept : (tree : Tree) (base : RootName) (number : ℕ) (put : Path × Node) → IsReadyPut roots tree put → node_at tree (staged_path roots base number) ≡ Some put.1
       → (earlier puts : List (Path × Node)) → number < length (nodes_below roots base earlier) → length (earlier ++ puts) < 2 ^ 64
@@ -289,10 +281,10 @@ module _ (roots : Roots) (apart : AreApart roots) (script : Script) where
   staged_kept tree base number put r there earlier (next ∷ puts) behind few all = (
     moved-apart (staged_path roots base number) put.0 put.1 tree place there
         (staged_apart roots apart own base (length (nodes_below roots own earlier)) number
-        (omega (arith, count-most own earlier, length-append earlier (next ∷ puts))) (omega (arith, count-most base earlier, length-append earlier (next ∷ puts)))
+        (omega (arith, count-most roots own earlier, length-append earlier (next ∷ puts))) (omega (arith, count-most roots base earlier, length-append earlier (next ∷ puts)))
         (λ one same. absurd (later one same)))
         (λ same. open_no_private roots put.0 r.opens (ap (is_private roots) (sym same) ∙ staged_private roots own (length (nodes_below roots own earlier)))) ∙ all.0,
-    staged_kept tree base number put r there (earlier ++ next ∷ []) puts (omega (arith, count-grows base earlier (next ∷ []))) (omega (arith, ap length (append_assoc earlier (next ∷ []) puts))) all.1,
+    staged_kept tree base number put r there (earlier ++ next ∷ []) puts (omega (arith, count-grows roots base earlier (next ∷ []))) (omega (arith, ap length (append_assoc earlier (next ∷ []) puts))) all.1,
   )
     where
       own : RootName
