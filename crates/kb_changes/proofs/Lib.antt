@@ -3,6 +3,7 @@ pub mod NumberLaws
 mod PatchDone
 mod PatchForeign
 mod PatchGroups
+mod PatchMet
 mod PatchParents
 mod PatchPlaces
 mod PatchPlain
