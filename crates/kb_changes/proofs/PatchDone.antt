@@ -1,20 +1,20 @@
 -- Doing the changes of a fitting patch makes of the public tree what the patch makes of it, and leaves the foreign tree.
-use Rattle.std.proofs.Common.{◌≡◌, ◌⊎◌, ℕ, Bool, true, false, cond, ◌&&◌, ◌||◌, not, List, [], ◌∷◌, ◌++◌, map, Option, Some, None, is_some, refl, sym, ap, ◌∙◌, subst, inl, inr}
+use Rattle.std.proofs.Common.{◌≡◌, Bool, true, false, cond, ◌&&◌, ◌||◌, not, List, [], ◌∷◌, ◌++◌, map, Option, Some, None, is_some, refl, sym, ap, ◌∙◌, subst, inl, inr}
 use Rattle.std.proofs.lemmas.List.Folds.{list_any-append}
 use Rattle.std.proofs.lemmas.List.Sums.{fold-append}
 use Rattle.std.proofs.lemmas.Map.Views.{any-filter_same}
 use Rattle.std.specs.Prelude.{flat_map}
-use Rattle.std.specs.List.{list_any, slice_get, AllByRecursion}
+use Rattle.std.specs.List.{list_any, AllByRecursion}
 use Rattle.std.specs.Option.{option_or}
 use Rattle.std.specs.Cmp.{first_so, second_so}
 use Rattle.std.specs.Cmp.Derive.{both_true}
 use Rattle.kb_world.specs.Path.{Path, parent, is_under}
 use Rattle.kb_world.specs.Tree.{Tree, node_at, is_dir, is_leaf}
 use Rattle.kb_world.specs.TreeLaws.{same_path, same_path-true, same_path-refl, same_tree}
-use Rattle.kb_world.specs.Public.{IsAlwaysPublic, is_public, is_private, public_tree, foreign_tree}
+use Rattle.kb_world.specs.Public.{IsAlwaysPublic, is_private, public_tree, foreign_tree}
 use Rattle.kb_world.specs.Roots.{AreApart, is_below}
 use Rattle.kb_world.specs.Script.{Script}
-use Rattle.kb_world.specs.Patch.{Patch, above, dirs_of, emptied_of, patched, with_directories, with_nodes, dropped, all_dropped, wiped, all_wiped, tidied, all_tidied, is_listed, put_at, left_at}
+use Rattle.kb_world.specs.Patch.{Patch, above, dirs_of, emptied_of, patched, with_directories, with_nodes, dropped, all_dropped, wiped, all_wiped, tidied, all_tidied, is_listed, put_at}
 use Rattle.kb_world.specs.declared.roots.Roots.{Roots}
 use Rattle.kb_world.specs.declared.tree.Node.{Node}
 use Rattle.kb_world.specs.declared.tree.Node.TheVariants as node
@@ -25,18 +25,18 @@ use Rattle.kb_world.proofs.ListedLaws.{listed-append, neither}
 use Rattle.kb_world.proofs.OrderLaws.{in_order_rises, any-found, any-of}
 use Rattle.kb_world.proofs.PatchLaws.{all_dropped-at, all_wiped-at, with_directories-at, with_nodes-at}
 use Rattle.kb_changes.specs.Change.{root_path, staged_path, do_change, done}
-use Rattle.kb_changes.specs.Changes.{numbered, drops_of, scratches, changes_of, nodes_below, staged_below, nodes_of, HasStaged}
+use Rattle.kb_changes.specs.Changes.{numbered_puts, drops_of, scratches, changes_of, nodes_below, staged_below, nodes_of, HasStaged}
 use Rattle.kb_changes.specs.Fit.{is_rooted, IsFitWipe, IsFitPut, IsFit}
 use Rattle.kb_changes.specs.Valid.{written_roots}
 use Rattle.kb_changes.specs.declared.change.Change.{Change}
-use Rattle.kb_changes.specs.declared.change.Change.TheVariants.{Dir, Put, Drop, DropDir, Wipe}
+use Rattle.kb_changes.specs.declared.change.Change.TheVariants.{Dir, Drop, DropDir, Wipe}
 use Rattle.kb_changes.specs.declared.change.RootName.{RootName}
 use Rattle.kb_changes.specs.declared.change.RootName.TheVariants as root_name
-use Rattle.kb_changes.proofs.PatchParents.{or_right, source_place, dir_place, DirPlace, HasPlace, dirs_done, stands_after, stays_after}
+use Rattle.kb_changes.proofs.PatchParents.{or_right, source_place, dir_place, HasPlace, dirs_done, stands_after, stays_after}
 use Rattle.kb_changes.proofs.PatchPublic.{all_dropped-public, all_wiped-public, with_directories-public, all_tidied-public}
 use Rattle.kb_changes.proofs.PatchForeign.{IsNeverForeign, private-own, all_dropped-foreign, all_wiped-foreign, with_directories-foreign, all_tidied-foreign}
-use Rattle.kb_changes.proofs.PatchPuts.{IsReadyPut, IsPutOver, AreStaged, staged_for, staged_private, private_hidden, open_no_private, puts_done}
-use Rattle.kb_changes.proofs.PatchPlaces.{under-trans, scratch_of, scratch_private, listed_root, root-over, staged-over, wipe_place, wiped_own, EmptiedPlace, emptied_place}
+use Rattle.kb_changes.proofs.PatchPuts.{IsReadyPut, IsPutOver, staged_for, staged_private, private_hidden, open_no_private, puts_done}
+use Rattle.kb_changes.proofs.PatchPlaces.{scratch_of, scratch_private, listed_root, root-over, staged-over, wipe_place, wiped_own, EmptiedPlace, emptied_place}
 use Rattle.kb_changes.proofs.PatchPlain.{IsLeft, all_plain}
 
 untrue : false ≡ true → ⊥
@@ -117,7 +117,7 @@ module _ (roots : Roots) (apart : AreApart roots) (script : Script) (patch : Pat
   made = with_directories dirs left
 
   abbrev put_over : Tree
-  put_over = done roots script (numbered roots [] patch.puts) made
+  put_over = done roots script (numbered_puts roots [] patch.puts) made
 
   drops_open : AllByRecursion (IsAlwaysPublic roots) (drops_of patch)
   drops_open = all-filter (IsAlwaysPublic roots) (λ path. not (is_some (put_at path patch.puts))) patch.drops fit.drops
@@ -282,7 +282,7 @@ module _ (roots : Roots) (apart : AreApart roots) (script : Script) (patch : Pat
   unfolding changes_of
   all_done =
       let w4 = map DropDir emptied in
-      let w3 = numbered roots [] patch.puts ++ w4 in
+      let w3 = numbered_puts roots [] patch.puts ++ w4 in
       let w2 = map Dir dirs ++ w3 in
       let w1 = map Wipe wipes ++ w2 in
       in_turn roots script (map Drop (drops_of patch)) w1 tree
@@ -291,7 +291,7 @@ module _ (roots : Roots) (apart : AreApart roots) (script : Script) (patch : Pat
       ∙ ap (done roots script w2) (wiped_all roots script wipes without_drops)
       ∙ in_turn roots script (map Dir dirs) w3 left
       ∙ ap (done roots script w3) dirs_made
-      ∙ in_turn roots script (numbered roots [] patch.puts) w4 made
+      ∙ in_turn roots script (numbered_puts roots [] patch.puts) w4 made
       ∙ tidied_all roots script emptied put_over
 
   -- in the public tree neither what is put again nor a scratch tree makes a difference
@@ -343,11 +343,11 @@ module _ (roots : Roots) (apart : AreApart roots) (script : Script) (patch : Pat
       ∙ all_tidied-public roots emptied put_over emptied_open
       (all_plain roots apart patch.wipes emptied tree fit.formed place emptied put_over (all_listed (λ q. is_listed q emptied ≡ true) emptied (λ q listed. listed)) what_is_left)
       ∙ ap (all_tidied emptied) (
-        over.public
-        ∙ ap (with_nodes patch.puts) (
-          with_directories-public roots dirs left dirs_open
-          ∙ ap (with_directories dirs) (all_wiped-public roots wipes without_drops ∙ ap (all_wiped wipes) (all_dropped-public roots (drops_of patch) tree drops_open)))
-        ∙ same_come)
+      over.public
+      ∙ ap (with_nodes patch.puts) (
+      with_directories-public roots dirs left dirs_open
+      ∙ ap (with_directories dirs) (all_wiped-public roots wipes without_drops ∙ ap (all_wiped wipes) (all_dropped-public roots (drops_of patch) tree drops_open)))
+      ∙ same_come)
 
   pub foreign_done : foreign_tree roots (done roots script (changes_of roots patch) tree) ≡ foreign_tree roots tree
   foreign_done =

@@ -1,5 +1,5 @@
 -- The groups of the changes of a patch.
-use Rattle.std.proofs.Common.{◌≡◌, ◌⊎◌, ℕ, Bool, true, false, cond, List, [], ◌∷◌, ◌++◌, map, filter_map, Option, Some, None, refl, sym, ap, ◌∙◌, inl, inr}
+use Rattle.std.proofs.Common.{◌≡◌, ◌⊎◌, ℕ, true, List, [], ◌∷◌, ◌++◌, map, filter_map, Option, Some, None, refl, ap, ◌∙◌, inl, inr}
 use Rattle.std.proofs.lemmas.List.{append-nil}
 use Rattle.std.proofs.lemmas.List.Elements.{filter_map-append}
 use Rattle.std.specs.Prelude.{◌&&◌, nat_le}
@@ -8,9 +8,8 @@ use Rattle.kb_world.specs.Path.{Path}
 use Rattle.kb_world.specs.declared.child.Request.{Request}
 use Rattle.kb_world.specs.declared.roots.Roots.{Roots}
 use Rattle.kb_world.specs.declared.tree.Node.{Node}
-use Rattle.kb_changes.specs.Change.{staged_path}
-use Rattle.kb_changes.specs.Changes.{root_of, numbered}
-use Rattle.kb_changes.specs.Groups.{drop_of, wipe_of, drop_dir_of, dir_of, target_of, staged_of, run_of, makes, drops_in, wipes_in, drop_dirs_in, first_drop_dirs, second_drop_dirs, dirs_in, targets_in, staged_in, runs_in}
+use Rattle.kb_changes.specs.Changes.{numbered_puts}
+use Rattle.kb_changes.specs.Groups.{drop_of, wipe_of, drop_dir_of, dir_of, target_of, staged_of, run_of, drops_in, wipes_in, drop_dirs_in, first_drop_dirs, second_drop_dirs, dirs_in, targets_in, staged_in, runs_in}
 use Rattle.kb_changes.specs.Valid.{are_in_order}
 use Rattle.kb_changes.specs.declared.change.Change.{Change}
 use Rattle.kb_changes.specs.declared.change.Change.TheVariants.{Dir, Put, Drop, DropDir, Wipe, Run}
@@ -21,38 +20,38 @@ module _ {X : Type 0} (f : Change → Option X) where
   picked-none make none [] = refl
   picked-none make none (y ∷ ys) = ap (λ o. cons_option o (filter_map f (map make ys))) (none y) ∙ picked-none make none ys
 
-  put-none : (roots : Roots) → ((root : RootName) (number : ℕ) (target : Path) → f (Put root number target) ≡ None) → (earlier puts : List (Path × Node)) → filter_map f (numbered roots earlier puts) ≡ []
+  put-none : (roots : Roots) → ((root : RootName) (number : ℕ) (target : Path) → f (Put root number target) ≡ None) → (earlier puts : List (Path × Node)) → filter_map f (numbered_puts roots earlier puts) ≡ []
   put-none roots none earlier [] = refl
-  put-none roots none earlier (put ∷ puts) = ap (λ o. cons_option o (filter_map f (numbered roots (earlier ++ put ∷ []) puts))) (none _ _ put.0) ∙ put-none roots none (earlier ++ put ∷ []) puts
+  put-none roots none earlier (put ∷ puts) = ap (λ o. cons_option o (filter_map f (numbered_puts roots (earlier ++ put ∷ []) puts))) (none _ _ put.0) ∙ put-none roots none (earlier ++ put ∷ []) puts
 
 picked-all : {X : Type 0} (f : Change → Option X) (make : X → Change) → ((x : X) → f (make x) ≡ Some x) → (xs : List X) → filter_map f (map make xs) ≡ xs
 picked-all f make all [] = refl
 picked-all f make all (x ∷ xs) = ap (λ o. cons_option o (filter_map f (map make xs))) (all x) ∙ ap (λ l. x ∷ l) (picked-all f make all xs)
 
-put_targets : (roots : Roots) (earlier puts : List (Path × Node)) → filter_map target_of (numbered roots earlier puts) ≡ map (λ (put : Path × Node). put.0) puts
+put_targets : (roots : Roots) (earlier puts : List (Path × Node)) → filter_map target_of (numbered_puts roots earlier puts) ≡ map (λ (put : Path × Node). put.0) puts
 put_targets roots earlier [] = refl
 put_targets roots earlier (put ∷ puts) = ap (λ l. put.0 ∷ l) (put_targets roots (earlier ++ put ∷ []) puts)
 
 -- the changes by their groups
 abbrev pub grouped : Roots → List Path → List Path → List Path → List (Path × Node) → List Path → List Request → List Change
 grouped roots drops wipes dirs puts emptied requests =
-    (map Drop drops ++ (map Wipe wipes ++ (map Dir dirs ++ (numbered roots [] puts ++ map DropDir emptied)))) ++ map Run requests
+    (map Drop drops ++ (map Wipe wipes ++ (map Dir dirs ++ (numbered_puts roots [] puts ++ map DropDir emptied)))) ++ map Run requests
 
 module _ (roots : Roots) (drops wipes dirs : List Path) (puts : List (Path × Node)) (emptied : List Path) (requests : List Request) where
   abbrev changes : List Change
   changes = grouped roots drops wipes dirs puts emptied requests
 
   split : {X : Type 0} (f : Change → Option X) → filter_map f changes
-      ≡ (filter_map f (map Drop drops) ++ (filter_map f (map Wipe wipes) ++ (filter_map f (map Dir dirs) ++ (filter_map f (numbered roots [] puts) ++ filter_map f (map DropDir emptied))))) ++ filter_map f (map Run requests)
+      ≡ (filter_map f (map Drop drops) ++ (filter_map f (map Wipe wipes) ++ (filter_map f (map Dir dirs) ++ (filter_map f (numbered_puts roots [] puts) ++ filter_map f (map DropDir emptied))))) ++ filter_map f (map Run requests)
   split f =
-      filter_map-append f (map Drop drops ++ (map Wipe wipes ++ (map Dir dirs ++ (numbered roots [] puts ++ map DropDir emptied)))) (map Run requests)
+      filter_map-append f (map Drop drops ++ (map Wipe wipes ++ (map Dir dirs ++ (numbered_puts roots [] puts ++ map DropDir emptied)))) (map Run requests)
       ∙ ap (λ l. l ++ filter_map f (map Run requests)) (
-        filter_map-append f (map Drop drops) (map Wipe wipes ++ (map Dir dirs ++ (numbered roots [] puts ++ map DropDir emptied)))
-        ∙ ap (λ l. filter_map f (map Drop drops) ++ l) (
-          filter_map-append f (map Wipe wipes) (map Dir dirs ++ (numbered roots [] puts ++ map DropDir emptied))
-          ∙ ap (λ l. filter_map f (map Wipe wipes) ++ l) (
-            filter_map-append f (map Dir dirs) (numbered roots [] puts ++ map DropDir emptied)
-            ∙ ap (λ l. filter_map f (map Dir dirs) ++ l) (filter_map-append f (numbered roots [] puts) (map DropDir emptied)))))
+      filter_map-append f (map Drop drops) (map Wipe wipes ++ (map Dir dirs ++ (numbered_puts roots [] puts ++ map DropDir emptied)))
+      ∙ ap (λ l. filter_map f (map Drop drops) ++ l) (
+      filter_map-append f (map Wipe wipes) (map Dir dirs ++ (numbered_puts roots [] puts ++ map DropDir emptied))
+      ∙ ap (λ l. filter_map f (map Wipe wipes) ++ l) (
+      filter_map-append f (map Dir dirs) (numbered_puts roots [] puts ++ map DropDir emptied)
+      ∙ ap (λ l. filter_map f (map Dir dirs) ++ l) (filter_map-append f (numbered_puts roots [] puts) (map DropDir emptied)))))
 
   joined : {X : Type 0} (a b c d e g : List X) (a2 b2 c2 d2 e2 g2 : List X) → a ≡ a2 → b ≡ b2 → c ≡ c2 → d ≡ d2 → e ≡ e2 → g ≡ g2 → (a ++ (b ++ (c ++ (d ++ e)))) ++ g ≡ (a2 ++ (b2 ++ (c2 ++ (d2 ++ e2)))) ++ g2
   joined a b c d e g a2 b2 c2 d2 e2 g2 ha hb hc hd he hg = λ i. (ha i ++ (hb i ++ (hc i ++ (hd i ++ he i)))) ++ hg i
@@ -81,11 +80,11 @@ module _ (roots : Roots) (drops wipes dirs : List Path) (puts : List (Path × No
       (put_targets roots [] puts) (picked-none target_of DropDir (λ x. refl) emptied) (picked-none target_of Run (λ x. refl) requests)
       ∙ append-nil (map (λ (put : Path × Node). put.0) puts ++ []) ∙ append-nil (map (λ (put : Path × Node). put.0) puts)
 
-  pub staged_are : staged_in roots changes ≡ filter_map (staged_of roots) (numbered roots [] puts)
+  pub staged_are : staged_in roots changes ≡ filter_map (staged_of roots) (numbered_puts roots [] puts)
   staged_are =
-      split (staged_of roots) ∙ joined _ _ _ _ _ _ [] [] [] (filter_map (staged_of roots) (numbered roots [] puts)) [] [] (picked-none (staged_of roots) Drop (λ x. refl) drops) (picked-none (staged_of roots) Wipe (λ x. refl) wipes)
+      split (staged_of roots) ∙ joined _ _ _ _ _ _ [] [] [] (filter_map (staged_of roots) (numbered_puts roots [] puts)) [] [] (picked-none (staged_of roots) Drop (λ x. refl) drops) (picked-none (staged_of roots) Wipe (λ x. refl) wipes)
       (picked-none (staged_of roots) Dir (λ x. refl) dirs) refl (picked-none (staged_of roots) DropDir (λ x. refl) emptied) (picked-none (staged_of roots) Run (λ x. refl) requests)
-      ∙ append-nil (filter_map (staged_of roots) (numbered roots [] puts) ++ []) ∙ append-nil (filter_map (staged_of roots) (numbered roots [] puts))
+      ∙ append-nil (filter_map (staged_of roots) (numbered_puts roots [] puts) ++ []) ∙ append-nil (filter_map (staged_of roots) (numbered_puts roots [] puts))
 
   pub drop_dirs_are : drop_dirs_in changes ≡ emptied
   drop_dirs_are =
@@ -117,7 +116,7 @@ module _ (roots : Roots) (drops wipes dirs : List Path) (puts : List (Path × No
   second_behind_wipes (p ∷ ps) rest = second_behind_wipes ps rest
 
   -- behind a Dir or a Put all DropDirs are of the second group
-  emptied_behind : (ds : List Path) (earlier ps : List (Path × Node)) → drop_dirs_in ((map Dir ds ++ (numbered roots earlier ps ++ map DropDir emptied)) ++ map Run requests) ≡ emptied
+  emptied_behind : (ds : List Path) (earlier ps : List (Path × Node)) → drop_dirs_in ((map Dir ds ++ (numbered_puts roots earlier ps ++ map DropDir emptied)) ++ map Run requests) ≡ emptied
   emptied_behind (d ∷ ds) earlier ps = emptied_behind ds earlier ps
   emptied_behind [] earlier (p ∷ ps) = emptied_behind [] (earlier ++ p ∷ []) ps
   emptied_behind [] earlier [] =
@@ -144,16 +143,16 @@ module _ (roots : Roots) (drops wipes dirs : List Path) (puts : List (Path × No
   pub one_group : ((first_drop_dirs changes ≡ []) × (second_drop_dirs changes ≡ emptied)) ⊎ ((first_drop_dirs changes ≡ emptied) × (second_drop_dirs changes ≡ []))
   one_group = by dirs puts (to_dirs, second_to_dirs)
     where
-      to_dirs : first_drop_dirs changes ≡ first_drop_dirs ((map Dir dirs ++ (numbered roots [] puts ++ map DropDir emptied)) ++ map Run requests)
-      to_dirs = behind_drops drops (map Wipe wipes ++ (map Dir dirs ++ (numbered roots [] puts ++ map DropDir emptied))) ∙ behind_wipes wipes (map Dir dirs ++ (numbered roots [] puts ++ map DropDir emptied))
+      to_dirs : first_drop_dirs changes ≡ first_drop_dirs ((map Dir dirs ++ (numbered_puts roots [] puts ++ map DropDir emptied)) ++ map Run requests)
+      to_dirs = behind_drops drops (map Wipe wipes ++ (map Dir dirs ++ (numbered_puts roots [] puts ++ map DropDir emptied))) ∙ behind_wipes wipes (map Dir dirs ++ (numbered_puts roots [] puts ++ map DropDir emptied))
 
-      second_to_dirs : second_drop_dirs changes ≡ second_drop_dirs ((map Dir dirs ++ (numbered roots [] puts ++ map DropDir emptied)) ++ map Run requests)
+      second_to_dirs : second_drop_dirs changes ≡ second_drop_dirs ((map Dir dirs ++ (numbered_puts roots [] puts ++ map DropDir emptied)) ++ map Run requests)
       second_to_dirs =
-          second_behind_drops drops (map Wipe wipes ++ (map Dir dirs ++ (numbered roots [] puts ++ map DropDir emptied))) ∙ second_behind_wipes wipes (map Dir dirs ++ (numbered roots [] puts ++ map DropDir emptied))
+          second_behind_drops drops (map Wipe wipes ++ (map Dir dirs ++ (numbered_puts roots [] puts ++ map DropDir emptied))) ∙ second_behind_wipes wipes (map Dir dirs ++ (numbered_puts roots [] puts ++ map DropDir emptied))
 
       by : (ds : List Path) (ps : List (Path × Node))
-          → (first_drop_dirs changes ≡ first_drop_dirs ((map Dir ds ++ (numbered roots [] ps ++ map DropDir emptied)) ++ map Run requests))
-          × (second_drop_dirs changes ≡ second_drop_dirs ((map Dir ds ++ (numbered roots [] ps ++ map DropDir emptied)) ++ map Run requests))
+          → (first_drop_dirs changes ≡ first_drop_dirs ((map Dir ds ++ (numbered_puts roots [] ps ++ map DropDir emptied)) ++ map Run requests))
+          × (second_drop_dirs changes ≡ second_drop_dirs ((map Dir ds ++ (numbered_puts roots [] ps ++ map DropDir emptied)) ++ map Run requests))
           → ((first_drop_dirs changes ≡ []) × (second_drop_dirs changes ≡ emptied)) ⊎ ((first_drop_dirs changes ≡ emptied) × (second_drop_dirs changes ≡ []))
       by (d ∷ ds) ps (one, two) = inl (one, two ∙ emptied_behind ds [] ps)
       by [] (p ∷ ps) (one, two) = inl (one, two ∙ emptied_behind [] (p ∷ []) ps)
@@ -191,40 +190,40 @@ module _ (requests : List Request) where
   tidied_none (p ∷ paths) = tidied_two paths
 
   module _ (roots : Roots) (emptied : List Path) where
-    puts_four : (earlier puts : List (Path × Node)) → are_in_order 4 ((numbered roots earlier puts ++ map DropDir emptied) ++ map Run requests) ≡ true
+    puts_four : (earlier puts : List (Path × Node)) → are_in_order 4 ((numbered_puts roots earlier puts ++ map DropDir emptied) ++ map Run requests) ≡ true
     puts_four earlier [] = tidied_four emptied
     puts_four earlier (put ∷ puts) = puts_four (earlier ++ put ∷ []) puts
 
-    puts_three : (puts : List (Path × Node)) → are_in_order 3 ((numbered roots [] puts ++ map DropDir emptied) ++ map Run requests) ≡ true
+    puts_three : (puts : List (Path × Node)) → are_in_order 3 ((numbered_puts roots [] puts ++ map DropDir emptied) ++ map Run requests) ≡ true
     puts_three [] = tidied_three emptied
     puts_three (put ∷ puts) = puts_four (put ∷ []) puts
 
-    puts_one : (puts : List (Path × Node)) → are_in_order 1 ((numbered roots [] puts ++ map DropDir emptied) ++ map Run requests) ≡ true
+    puts_one : (puts : List (Path × Node)) → are_in_order 1 ((numbered_puts roots [] puts ++ map DropDir emptied) ++ map Run requests) ≡ true
     puts_one [] = tidied_one emptied
     puts_one (put ∷ puts) = puts_four (put ∷ []) puts
 
-    puts_none : (puts : List (Path × Node)) → are_in_order 0 ((numbered roots [] puts ++ map DropDir emptied) ++ map Run requests) ≡ true
+    puts_none : (puts : List (Path × Node)) → are_in_order 0 ((numbered_puts roots [] puts ++ map DropDir emptied) ++ map Run requests) ≡ true
     puts_none [] = tidied_none emptied
     puts_none (put ∷ puts) = puts_four (put ∷ []) puts
 
     module _ (puts : List (Path × Node)) where
-      dirs_three : (dirs : List Path) → are_in_order 3 ((map Dir dirs ++ (numbered roots [] puts ++ map DropDir emptied)) ++ map Run requests) ≡ true
+      dirs_three : (dirs : List Path) → are_in_order 3 ((map Dir dirs ++ (numbered_puts roots [] puts ++ map DropDir emptied)) ++ map Run requests) ≡ true
       dirs_three [] = puts_three puts
       dirs_three (d ∷ dirs) = dirs_three dirs
 
-      dirs_one : (dirs : List Path) → are_in_order 1 ((map Dir dirs ++ (numbered roots [] puts ++ map DropDir emptied)) ++ map Run requests) ≡ true
+      dirs_one : (dirs : List Path) → are_in_order 1 ((map Dir dirs ++ (numbered_puts roots [] puts ++ map DropDir emptied)) ++ map Run requests) ≡ true
       dirs_one [] = puts_one puts
       dirs_one (d ∷ dirs) = dirs_three dirs
 
-      dirs_none : (dirs : List Path) → are_in_order 0 ((map Dir dirs ++ (numbered roots [] puts ++ map DropDir emptied)) ++ map Run requests) ≡ true
+      dirs_none : (dirs : List Path) → are_in_order 0 ((map Dir dirs ++ (numbered_puts roots [] puts ++ map DropDir emptied)) ++ map Run requests) ≡ true
       dirs_none [] = puts_none puts
       dirs_none (d ∷ dirs) = dirs_three dirs
 
-      wipes_one : (dirs wipes : List Path) → are_in_order 1 ((map Wipe wipes ++ (map Dir dirs ++ (numbered roots [] puts ++ map DropDir emptied))) ++ map Run requests) ≡ true
+      wipes_one : (dirs wipes : List Path) → are_in_order 1 ((map Wipe wipes ++ (map Dir dirs ++ (numbered_puts roots [] puts ++ map DropDir emptied))) ++ map Run requests) ≡ true
       wipes_one dirs [] = dirs_one dirs
       wipes_one dirs (w ∷ wipes) = wipes_one dirs wipes
 
-      wipes_none : (dirs wipes : List Path) → are_in_order 0 ((map Wipe wipes ++ (map Dir dirs ++ (numbered roots [] puts ++ map DropDir emptied))) ++ map Run requests) ≡ true
+      wipes_none : (dirs wipes : List Path) → are_in_order 0 ((map Wipe wipes ++ (map Dir dirs ++ (numbered_puts roots [] puts ++ map DropDir emptied))) ++ map Run requests) ≡ true
       wipes_none dirs [] = dirs_none dirs
       wipes_none dirs (w ∷ wipes) = wipes_one dirs wipes
 

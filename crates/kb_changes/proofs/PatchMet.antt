@@ -1,42 +1,39 @@
 -- What the laws of patches ask for is met.
-use Rattle.std.proofs.Common.{◌≡◌, ◌≢◌, ◌⊎◌, ℕ, zero, suc, ◌+◌, ◌<◌, ◌^◌, Bool, true, false, cond, ◌&&◌, ◌||◌, not, List, [], ◌∷◌, ◌++◌, length, drop, map, Option, Some, None, is_some, codes, refl, sym, ap, ◌∙◌, subst, inl, inr, arith, length-append, append_assoc}
-use Rattle.std.specs.Prelude.{filter, flat_map}
-use Rattle.std.specs.List.{list_any, slice_get, AllByRecursion}
+use Rattle.std.proofs.Common.{◌≡◌, ◌⊎◌, zero, suc, Bool, true, false, cond, ◌&&◌, ◌||◌, not, [], ◌∷◌, ◌++◌, length, drop, Option, Some, None, is_some, codes, refl, sym, ap, ◌∙◌, subst, inl, inr, arith, length-append, append_assoc}
+use Rattle.std.specs.List.{list_any}
 use Rattle.std.specs.Option.{option_or}
 use Rattle.std.specs.FinMap.{empty}
-use Rattle.std.specs.Fmt.{decimal}
 use Rattle.std.specs.Cmp.{first_so}
 use Rattle.std.specs.Cmp.Derive.{both_true}
 use Rattle.kb_world.specs.Names.{is_word, is_version, begins_alphanumeric}
 use Rattle.kb_world.specs.Path.{Path, child, parent, is_under}
-use Rattle.kb_world.specs.Patch.{Patch, above, directories_to, dirs_of, emptied_of, in_order, is_listed, left_at}
+use Rattle.kb_world.specs.Patch.{Patch, above, dirs_of, in_order, is_listed, left_at}
 use Rattle.kb_world.specs.Public.{IsAlwaysPublic, is_private, private_places, intent_path, staging_path}
 use Rattle.kb_world.specs.Roots.{AreApart, is_below, roots_under}
 use Rattle.kb_world.specs.Steps.{blocking, add_patch, add_blocked}
 use Rattle.kb_world.specs.Store.{is_key, module_path, version_path, link_path, source_text}
 use Rattle.kb_world.specs.StorePath.{key_of, store_path, is_in_scratch}
 use Rattle.kb_world.specs.Tree.{Tree, node_at, with_node, is_dir, is_leaf, IsFormed, sole}
-use Rattle.kb_world.specs.TreeLaws.{same_path, same_path-true, same_path-refl, node_at-with_node, with_node-here, with_node-apart, node_at-empty}
+use Rattle.kb_world.specs.TreeLaws.{same_path, same_path-true, node_at-with_node, with_node-here, with_node-apart, node_at-empty}
 use Rattle.kb_world.specs.declared.job.Key.{Key}
 use Rattle.kb_world.specs.declared.roots.Roots.{Roots}
 use Rattle.kb_world.specs.declared.store_path.StorePath.TheVariants.{SourceLink}
 use Rattle.kb_world.specs.declared.tree.Node.{Node}
 use Rattle.kb_world.specs.declared.tree.Node.TheVariants as node
 use Rattle.kb_world.proofs.NameLaws.{known}
-use Rattle.kb_world.proofs.PathLaws.{elsewhere, by_test, under-append, under-split}
+use Rattle.kb_world.proofs.PathLaws.{elsewhere, by_test, under-append}
 use Rattle.kb_world.proofs.PublicLaws.{written_apart, in_dkms}
 use Rattle.kb_world.proofs.PublicPlaces.{public_place}
 use Rattle.kb_world.proofs.StorePathLaws.{link_no_scratch}
-use Rattle.kb_world.proofs.ListedLaws.{or_first, or_second, listed-append, listed-reverse, listed-in_order}
+use Rattle.kb_world.proofs.ListedLaws.{or_first, or_second, listed-reverse, listed-in_order}
 use Rattle.kb_world.proofs.AboveLaws.{above-dkms}
 use Rattle.kb_world.proofs.OrderLaws.{any-found}
 use Rattle.kb_changes.specs.Change.{staged_path}
 use Rattle.kb_changes.specs.Changes.{HasStaged, nodes_of}
-use Rattle.kb_changes.specs.Fit.{IsFit, IsPlacedPath, MayStand}
+use Rattle.kb_changes.specs.Fit.{IsFit, MayStand}
 use Rattle.kb_changes.specs.Valid.{written_roots, new_intent_path, is_kept_out, is_initrd, is_initrd_name, is_changeable}
-use Rattle.kb_changes.specs.declared.change.RootName.{RootName}
 use Rattle.kb_changes.specs.declared.change.RootName.TheVariants as root_name
-use Rattle.kb_changes.proofs.PatchParents.{or_right, either, below-append}
+use Rattle.kb_changes.proofs.PatchParents.{either, below-append}
 use Rattle.kb_changes.proofs.PatchPuts.{open_no_private}
 
 untrue : false ≡ true → ⊥
@@ -98,18 +95,18 @@ module _ (roots : Roots) (apart : AreApart roots) (key : Key) (named : is_key ke
 
   made_under : (q : Path) → is_listed q (dirs_of roots patch) ≡ true → is_under q roots.dkms ≡ true
   made_under q listed = elim (made q listed) [
-      | inl is ↦ ap (λ p. is_under p roots.dkms) is ∙ under-append roots.dkms (key.module ∷ [])
-      | inr is ↦ ap (λ p. is_under p roots.dkms) is ∙ under-append roots.dkms (key.module ∷ key.version ∷ [])
-    ]
+    | inl is ↦ ap (λ p. is_under p roots.dkms) is ∙ under-append roots.dkms (key.module ∷ [])
+    | inr is ↦ ap (λ p. is_under p roots.dkms) is ∙ under-append roots.dkms (key.module ∷ key.version ∷ [])
+  ]
 
   plain : begins_alphanumeric key.module ≡ true
   plain = (known key.module (first_so (is_word key.module) (is_version key.version) named)).begins
 
   made_open : (q : Path) → is_listed q (dirs_of roots patch) ≡ true → IsAlwaysPublic roots q
   made_open q listed = elim (made q listed) [
-      | inl is ↦ subst (IsAlwaysPublic roots) (sym is) (in_dkms roots apart (key.module ∷ []) plain refl)
-      | inr is ↦ subst (IsAlwaysPublic roots) (sym is) (in_dkms roots apart (key.module ∷ key.version ∷ []) plain (link_no_scratch key.module key.version))
-    ]
+    | inl is ↦ subst (IsAlwaysPublic roots) (sym is) (in_dkms roots apart (key.module ∷ []) plain refl)
+    | inr is ↦ subst (IsAlwaysPublic roots) (sym is) (in_dkms roots apart (key.module ∷ key.version ∷ []) plain (link_no_scratch key.module key.version))
+  ]
 
   pub add_stands : MayStand roots (add_patch roots key)
   add_stands = record {

@@ -1,16 +1,15 @@
 -- Directories that are listed in order have parents when their turn comes.
-use Rattle.std.proofs.Common.{◌≡◌, ◌≢◌, ◌⊎◌, ℕ, zero, suc, Bool, true, false, cond, ◌&&◌, ◌||◌, not, List, [], ◌∷◌, ◌++◌, length, drop, map, Option, Some, None, is_some, refl, sym, ap, ◌∙◌, subst, inl, inr, append_assoc}
+use Rattle.std.proofs.Common.{◌≡◌, ◌⊎◌, ℕ, zero, suc, Bool, true, false, cond, ◌&&◌, ◌||◌, not, List, [], ◌∷◌, ◌++◌, length, drop, map, Option, Some, None, is_some, refl, sym, ap, ◌∙◌, subst, inl, inr, append_assoc}
 use Rattle.std.proofs.lemmas.List.{append_cancel_left}
 use Rattle.std.proofs.lemmas.List.Sums.{fold-append}
-use Rattle.std.specs.Prelude.{bytes_eq, flat_map, filter}
+use Rattle.std.specs.Prelude.{flat_map}
 use Rattle.std.specs.List.{list_all, list_any, slice_get, AllByRecursion}
 use Rattle.std.specs.Option.{option_or}
 use Rattle.std.specs.Cmp.{first_so, second_so}
 use Rattle.std.specs.Cmp.Derive.{both_true}
-use Rattle.std.specs.Cmp.Lexicographic.{bytes_decides}
 use Rattle.std.specs.declared.cmp.Ordering.TheVariants.{Less}
 use Rattle.kb_world.specs.Path.{Path, path_cmp, child, parent, is_under, are_apart}
-use Rattle.kb_world.specs.Tree.{Tree, node_at, with_node, is_dir, is_leaf, IsFormed}
+use Rattle.kb_world.specs.Tree.{Tree, node_at, with_node, is_dir, is_leaf}
 use Rattle.kb_world.specs.TreeLaws.{same_path, same_path-true, same_path-refl}
 use Rattle.kb_world.specs.Roots.{AreApart, is_below, based_roots, each_apart}
 use Rattle.kb_world.specs.Patch.{Patch, directories_to, above_in, above, dirs_of, is_listed, with_directory, with_directories}
@@ -18,7 +17,7 @@ use Rattle.kb_world.specs.Script.{Script}
 use Rattle.kb_world.specs.declared.roots.Roots.{Roots}
 use Rattle.kb_world.specs.declared.tree.Node.{Node}
 use Rattle.kb_world.specs.declared.tree.Node.TheVariants as node
-use Rattle.kb_world.proofs.PathLaws.{under-append, under-self, under-beside, under-split, elsewhere, apart-back, by_test}
+use Rattle.kb_world.proofs.PathLaws.{under-append, under-self, under-beside, under-split, elsewhere, apart-back}
 use Rattle.kb_world.proofs.StepLaws.{parent-child}
 use Rattle.kb_world.proofs.ListedLaws.{listed-append, listed-in_order}
 use Rattle.kb_world.proofs.OrderLaws.{IsRising, below-rises, less-once}

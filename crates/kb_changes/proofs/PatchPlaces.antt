@@ -1,16 +1,15 @@
 -- Where the paths of a fitting patch lie: none over a root or over what is staged, and none that goes is private.
-use Rattle.std.proofs.Common.{◌≡◌, ◌≢◌, ◌⊎◌, ℕ, ◌+◌, Bool, true, false, cond, ◌&&◌, ◌||◌, not, List, [], ◌∷◌, ◌++◌, length, drop, map, nat_eq, Option, Some, None, is_some, codes, refl, sym, ap, ◌∙◌, subst, inl, inr, append_assoc}
+use Rattle.std.proofs.Common.{◌≡◌, ◌⊎◌, ℕ, ◌+◌, Bool, true, false, cond, ◌&&◌, ◌||◌, not, List, [], ◌∷◌, ◌++◌, length, drop, map, nat_eq, Option, Some, None, codes, refl, sym, ap, ◌∙◌, inl, inr, append_assoc}
 use Rattle.std.specs.Prelude.{bytes_eq, filter, flat_map}
 use Rattle.std.specs.List.{list_any, AllByRecursion}
 use Rattle.std.specs.Fmt.{decimal}
 use Rattle.std.specs.Cmp.{first_so, second_so}
 use Rattle.std.specs.Cmp.Derive.{both_true}
 use Rattle.std.specs.Cmp.Lexicographic.{bytes_decides}
-use Rattle.kb_world.specs.Names.{is_word, is_version}
 use Rattle.kb_world.specs.Path.{Path, child, is_under, are_apart}
 use Rattle.kb_world.specs.Tree.{is_dir}
 use Rattle.kb_world.specs.TreeLaws.{same_path, same_path-true, same_path-refl}
-use Rattle.kb_world.specs.Public.{IsAlwaysPublic, is_public, is_private, is_loose, intent_path, staging_path, private_places}
+use Rattle.kb_world.specs.Public.{IsAlwaysPublic, is_public, is_private, is_loose, staging_path, private_places}
 use Rattle.kb_world.specs.Roots.{AreApart, is_below}
 use Rattle.kb_world.specs.StorePath.{key_of, store_path, path_of, is_in_scratch}
 use Rattle.kb_world.specs.Patch.{Patch, above, emptied_of, in_order, is_listed}
@@ -18,14 +17,14 @@ use Rattle.kb_world.specs.declared.roots.Roots.{Roots}
 use Rattle.kb_world.specs.declared.store_path.StorePath.{StorePath}
 use Rattle.kb_world.specs.declared.store_path.StorePath.TheVariants.{InScratch, SourceLink, Targets, InBox, KernelLink, InChest}
 use Rattle.kb_world.specs.declared.tree.Node.{Node}
-use Rattle.kb_world.proofs.PathLaws.{under-append, under-self, under-split, elsewhere, comparable, by_test}
+use Rattle.kb_world.proofs.PathLaws.{under-append, under-self, under-split, elsewhere, by_test}
 use Rattle.kb_world.proofs.PublicLaws.{written_apart}
 use Rattle.kb_world.proofs.StorePathLaws.{told_both, place_there}
 use Rattle.kb_world.proofs.OrderLaws.{any-found, any-of}
 use Rattle.kb_world.proofs.ListedLaws.{listed-append, listed-reverse, listed-in_order}
 use Rattle.kb_world.proofs.AboveLaws.{above-below, above-dkms, each-listed}
 use Rattle.kb_changes.specs.Change.{root_path, staged_path}
-use Rattle.kb_changes.specs.Changes.{root_of, scratches}
+use Rattle.kb_changes.specs.Changes.{scratches}
 use Rattle.kb_changes.specs.Valid.{is_version_dir, are_version_names, written_roots}
 use Rattle.kb_changes.specs.Fit.{IsFitWipe}
 use Rattle.kb_changes.specs.declared.change.RootName.{RootName}

@@ -1,26 +1,24 @@
 -- Directories that go with a patch are left empty in the whole tree exactly where they are in the public one.
-use Rattle.std.proofs.Common.{◌≡◌, ◌≢◌, ◌⊎◌, ℕ, Bool, true, false, cond, ◌&&◌, ◌||◌, not, List, [], ◌∷◌, ◌++◌, length, drop, map, Option, Some, None, is_some, codes, refl, sym, ap, ◌∙◌, subst, inl, inr, append_assoc}
+use Rattle.std.proofs.Common.{◌≡◌, ◌⊎◌, ℕ, Bool, true, false, cond, ◌&&◌, ◌||◌, not, List, [], ◌∷◌, ◌++◌, Option, Some, None, is_some, codes, refl, sym, ap, ◌∙◌, inl, inr, append_assoc}
 use Rattle.std.proofs.lemmas.List.Folds.{list_any-append}
-use Rattle.std.specs.Prelude.{bytes_eq, IsTrue}
 use Rattle.std.specs.List.{list_any, AllByRecursion}
 use Rattle.std.specs.FinMap.{keys, remove, contains_key-keys}
-use Rattle.std.specs.Cmp.{first_so, second_so}
+use Rattle.std.specs.Cmp.{first_so}
 use Rattle.std.specs.Cmp.Derive.{both_true}
-use Rattle.kb_world.specs.Names.{is_word, is_version, begins_alphanumeric}
-use Rattle.kb_world.specs.Path.{Path, child, parent, is_under, are_apart}
-use Rattle.kb_world.specs.Tree.{Tree, node_at, is_dir, is_leaf, IsFormed}
+use Rattle.kb_world.specs.Names.{is_word, is_version}
+use Rattle.kb_world.specs.Path.{Path, child, is_under}
+use Rattle.kb_world.specs.Tree.{Tree, node_at, is_dir, IsFormed}
 use Rattle.kb_world.specs.TreeLaws.{same_path, same_path-true, same_path-refl, node_at-remove}
-use Rattle.kb_world.specs.Public.{IsAlwaysPublic, is_public, is_private, is_loose, intent_path, staging_path, private_places, public_tree}
+use Rattle.kb_world.specs.Public.{IsAlwaysPublic, is_public, is_private, intent_path, staging_path, private_places, public_tree}
 use Rattle.kb_world.specs.Roots.{AreApart, is_below}
-use Rattle.kb_world.specs.StorePath.{key_of, store_path, path_of, is_in_scratch}
-use Rattle.kb_world.specs.Patch.{Patch, emptied_of, is_listed, tidied}
+use Rattle.kb_world.specs.StorePath.{key_of, store_path, is_in_scratch}
+use Rattle.kb_world.specs.Patch.{is_listed, tidied}
 use Rattle.kb_world.specs.declared.roots.Roots.{Roots}
-use Rattle.kb_world.specs.declared.job.Key.{Key}
 use Rattle.kb_world.specs.declared.store_path.StorePath.{StorePath}
 use Rattle.kb_world.specs.declared.store_path.StorePath.TheVariants.{InScratch, SourceLink, Targets, InBox, KernelLink, InChest}
 use Rattle.kb_world.specs.declared.tree.Node.{Node}
 use Rattle.kb_world.proofs.NameLaws.{known}
-use Rattle.kb_world.proofs.PathLaws.{under-append, under-self, under-split, elsewhere, comparable, by_test, drop-front}
+use Rattle.kb_world.proofs.PathLaws.{under-append, under-self, elsewhere, comparable, by_test, drop-front}
 use Rattle.kb_world.proofs.PublicLaws.{written_apart, in_dkms, shown, node_at-public_tree}
 use Rattle.kb_world.proofs.StepLaws.{parent-child}
 use Rattle.kb_world.proofs.StorePathLaws.{told_both, place_there, link_no_scratch}
@@ -226,12 +224,12 @@ module _ (roots : Roots) (apart : AreApart roots) (wipes : List Path) (emptied :
           at_version : (b : Bool) → is_under v p ≡ b → is_under p v ≡ true → ⊥
           at_version true over under = untrue (sym stays ∙ ap (λ x. is_listed x emptied) (under-both v p over under) ∙ listed)
           at_version false over under = elim (comparable q p (child v (codes "build")) q_under_p q_under) as (λ _. ⊥) [
-              | inl within ↦ open_no_private roots p (places p listed).opens (private_down roots (child v (codes "build")) p scratch_own within)
-              | inr around ↦ elim (child-under v (codes "build") p around) as (λ _. ⊥) [
-                | inl whole ↦ untrue (sym over ∙ whole)
-                | inr same ↦ open_no_private roots p (places p listed).opens (ap (is_private roots) (sym same) ∙ scratch_own)
-              ]
+            | inl within ↦ open_no_private roots p (places p listed).opens (private_down roots (child v (codes "build")) p scratch_own within)
+            | inr around ↦ elim (child-under v (codes "build") p around) as (λ _. ⊥) [
+              | inl whole ↦ untrue (sym over ∙ whole)
+              | inr same ↦ open_no_private roots p (places p listed).opens (ap (is_private roots) (sym same) ∙ scratch_own)
             ]
+          ]
             where
               scratch_own : is_private roots (child v (codes "build")) ≡ true
               scratch_own =
@@ -240,9 +238,9 @@ module _ (roots : Roots) (apart : AreApart roots) (wipes : List Path) (emptied :
 
       below_p : is_below v p ≡ true
       below_p = elim (comparable q v p q_under_v q_under_p) as (λ _. is_below v p ≡ true) [
-          | inl under ↦ both_true under (ap not no_under)
-          | inr over ↦ absurd (untrue (sym no_under ∙ over))
-        ]
+        | inl under ↦ both_true under (ap not no_under)
+        | inr over ↦ absurd (untrue (sym no_under ∙ over))
+      ]
 
   plain : (new : Tree) (p : Path) → is_listed p emptied ≡ true → IsLeft roots all_wipes emptied old new → IsPlain roots p new
   plain new p listed left = same_bool (list_any (λ other. is_below other p) (keys new)) (list_any (λ other. is_below other p) (keys (public_tree roots new))) out back

@@ -7,7 +7,7 @@ use Rattle.kb_world.specs.Tree.{Tree, node_at, with_node, without, edited, moved
 use Rattle.kb_world.specs.TreeLaws.{same_path, same_path-true, same_tree, node_at-remove, node_at-retain}
 use Rattle.kb_world.specs.Roots.{is_below}
 use Rattle.kb_world.specs.Public.{IsAlwaysPublic, is_public, public_tree}
-use Rattle.kb_world.specs.Patch.{with_directory, dropped, wiped, tidied, all_dropped, all_wiped, with_directories, all_tidied, is_listed}
+use Rattle.kb_world.specs.Patch.{with_directory, dropped, wiped, tidied, all_dropped, all_wiped, with_directories, all_tidied}
 use Rattle.kb_world.specs.declared.roots.Roots.{Roots}
 use Rattle.kb_world.specs.declared.tree.Node.{Node}
 use Rattle.kb_world.specs.declared.tree.Node.TheVariants as node

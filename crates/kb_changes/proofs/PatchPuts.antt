@@ -1,15 +1,14 @@
 -- What is staged stands until it is put, and then at its target.
-use Rattle.std.proofs.Common.{◌≡◌, ◌≢◌, ℕ, zero, suc, ◌+◌, ◌<◌, ◌^◌, ◌≤◌, Bool, true, false, cond, ◌&&◌, ◌||◌, not, List, [], ◌∷◌, ◌++◌, length, map, Option, Some, None, is_some, codes, refl, sym, ap, ◌∙◌, subst, inl, inr, append_assoc, arith, length-append}
+use Rattle.std.proofs.Common.{◌≡◌, ◌≢◌, ℕ, ◌<◌, ◌^◌, ◌≤◌, Bool, true, false, cond, ◌&&◌, ◌||◌, not, List, [], ◌∷◌, ◌++◌, length, map, Option, Some, None, is_some, codes, refl, sym, ap, ◌∙◌, subst, append_assoc, arith, length-append}
 use Rattle.std.proofs.lemmas.List.{append_cancel_left, map-append}
 use Rattle.std.proofs.lemmas.Fmt.{decimal_injective}
 use Rattle.std.specs.Prelude.{filter}
 use Rattle.std.specs.List.{list_any, slice_get, AllByRecursion}
 use Rattle.std.specs.Fmt.{decimal}
-use Rattle.std.specs.Cmp.{first_so, second_so}
-use Rattle.kb_world.specs.Path.{Path, child, parent, is_under, are_apart}
-use Rattle.kb_world.specs.Tree.{Tree, node_at, with_node, without, edited, moved, is_leaf, is_dir}
+use Rattle.kb_world.specs.Path.{Path, parent, is_under}
+use Rattle.kb_world.specs.Tree.{Tree, node_at, without, edited, moved, is_leaf, is_dir}
 use Rattle.kb_world.specs.TreeLaws.{same_path, same_path-true, same_path-refl, with_node-apart, node_at-with_node, node_at-remove}
-use Rattle.kb_world.specs.Public.{IsAlwaysPublic, is_public, is_private, staging_path, public_tree, foreign_tree, private_places, is_loose}
+use Rattle.kb_world.specs.Public.{IsAlwaysPublic, is_private, staging_path, public_tree, foreign_tree, private_places, is_loose}
 use Rattle.kb_world.specs.Roots.{AreApart}
 use Rattle.kb_world.specs.Script.{Script}
 use Rattle.kb_world.specs.StorePath.{store_path, is_in_scratch}
@@ -19,12 +18,12 @@ use Rattle.kb_world.specs.declared.tree.Node.{Node}
 use Rattle.kb_world.proofs.PathLaws.{under-append, under-above, elsewhere, apart-back}
 use Rattle.kb_world.proofs.PublicLaws.{WrittenApart, written_apart}
 use Rattle.kb_changes.specs.Change.{root_path, staged_path, do_change, done}
-use Rattle.kb_changes.specs.Changes.{root_of, same_root, nodes_below, numbered, Staged, staged_below, nodes_of, HasStaged}
+use Rattle.kb_changes.specs.Changes.{root_of, same_root, nodes_below, numbered_puts, Staged, staged_below, HasStaged}
 use Rattle.kb_changes.specs.declared.change.Change.TheVariants.{Put}
 use Rattle.kb_changes.specs.declared.change.RootName.{RootName}
 use Rattle.kb_changes.specs.declared.change.RootName.TheVariants as root_name
 use Rattle.kb_world.proofs.OrderLaws.{any-of}
-use Rattle.kb_changes.proofs.PatchParents.{or_right, nth_listed, modules_boot}
+use Rattle.kb_changes.proofs.PatchParents.{nth_listed, modules_boot}
 use Rattle.kb_changes.proofs.PatchPublic.{IsNeverPublic, public-moved}
 use Rattle.kb_changes.proofs.PatchForeign.{foreign-moved}
 
@@ -136,9 +135,9 @@ pub are_staged : (roots : Roots) (whole earlier puts : List (Path × Node)) (tre
 are_staged roots whole earlier [] tree is all = tt
 are_staged roots whole earlier (put ∷ puts) tree is all = (
   all base (length (nodes_below roots base earlier)) put.1 (
-    ap (λ l. slice_get (nodes_below roots base l) (length (nodes_below roots base earlier))) is
-    ∙ ap (λ l. slice_get l (length (nodes_below roots base earlier))) (below-append-nodes roots base earlier (put ∷ puts) ∙ ap (λ l. nodes_below roots base earlier ++ l) (own_node roots put puts))
-    ∙ get_behind (nodes_below roots base earlier) put.1 (nodes_below roots base puts)),
+      ap (λ l. slice_get (nodes_below roots base l) (length (nodes_below roots base earlier))) is
+      ∙ ap (λ l. slice_get l (length (nodes_below roots base earlier))) (below-append-nodes roots base earlier (put ∷ puts) ∙ ap (λ l. nodes_below roots base earlier ++ l) (own_node roots put puts))
+      ∙ get_behind (nodes_below roots base earlier) put.1 (nodes_below roots base puts)),
   are_staged roots whole (earlier ++ put ∷ []) puts tree (is ∙ sym (append_assoc earlier (put ∷ []) puts)) all,
 )
   where
@@ -298,7 +297,7 @@ module _ (roots : Roots) (apart : AreApart roots) (script : Script) where
           let counts : length (nodes_below roots own earlier) ≡ length (nodes_below roots base earlier) = ap (λ x. length (nodes_below roots x earlier)) one in omega arith
 
   pub puts_done : (earlier puts : List (Path × Node)) (tree : Tree) → length (earlier ++ puts) < 2 ^ 64 → AllByRecursion (IsReadyPut roots tree) puts → AreStaged roots earlier puts tree
-      → IsPutOver roots puts tree (done roots script (numbered roots earlier puts) tree)
+      → IsPutOver roots puts tree (done roots script (numbered_puts roots earlier puts) tree)
   puts_done earlier [] tree few ready staged = put_over-none roots tree
   puts_done earlier (put ∷ puts) tree few ready staged =
       let base = root_of roots put.0 in
@@ -307,7 +306,7 @@ module _ (roots : Roots) (apart : AreApart roots) (script : Script) where
       let more : number < length (nodes_below roots base (earlier ++ put ∷ [])) =
       omega (arith, ap length (below-append-nodes roots base earlier (put ∷ [])), length-append (nodes_below roots base earlier) (nodes_below roots base (put ∷ [])), ap length (own_node roots put [])) in
       let few_more : length ((earlier ++ put ∷ []) ++ puts) < 2 ^ 64 = omega (arith, ap length (append_assoc earlier (put ∷ []) puts)) in
-      subst (λ t. IsPutOver roots (put ∷ puts) tree (done roots script (numbered roots (earlier ++ put ∷ []) puts) t)) (sym (put_done tree base number put ready.0 staged.0))
-      (put_over-then roots put puts tree mid (done roots script (numbered roots (earlier ++ put ∷ []) puts) mid) (moved_over tree base number put ready.0 staged.0)
+      subst (λ t. IsPutOver roots (put ∷ puts) tree (done roots script (numbered_puts roots (earlier ++ put ∷ []) puts) t)) (sym (put_done tree base number put ready.0 staged.0))
+      (put_over-then roots put puts tree mid (done roots script (numbered_puts roots (earlier ++ put ∷ []) puts) mid) (moved_over tree base number put ready.0 staged.0)
       (puts_done (earlier ++ put ∷ []) puts mid few_more (all_ready_kept tree base number put puts ready.0 staged.0 ready.1)
       (staged_kept tree base number put ready.0 staged.0 (earlier ++ put ∷ []) puts more few_more staged.1)))

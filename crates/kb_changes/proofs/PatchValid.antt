@@ -1,47 +1,43 @@
 -- The changes of a patch are valid by facts of its lists.
-use Rattle.std.proofs.Common.{◌≡◌, ◌≢◌, ◌⊎◌, ℕ, ◌<◌, ◌^◌, Bool, true, false, cond, ◌&&◌, ◌||◌, not, List, [], ◌∷◌, ◌++◌, length, drop, map, filter_map, Option, Some, None, is_some, codes, refl, sym, ap, ◌∙◌, subst, inl, inr, append_assoc, arith, length-append}
-use Rattle.std.proofs.lemmas.List.{append_cancel_left}
+use Rattle.std.proofs.Common.{◌≡◌, ◌⊎◌, ℕ, ◌<◌, ◌^◌, Bool, true, false, cond, ◌&&◌, ◌||◌, not, List, [], ◌∷◌, ◌++◌, length, drop, map, filter_map, Option, Some, None, is_some, codes, refl, sym, ap, ◌∙◌, inl, inr, append_assoc, arith, length-append}
 use Rattle.std.proofs.lemmas.List.Folds.{list_any-append, list_all-append}
 use Rattle.std.specs.Prelude.{bytes_eq, filter, flat_map}
 use Rattle.std.specs.List.{list_all, list_any, AllByRecursion}
 use Rattle.std.specs.Option.{option_or}
 use Rattle.std.specs.Cmp.{first_so, second_so}
 use Rattle.std.specs.Cmp.Derive.{both_true}
-use Rattle.std.specs.Cmp.Lexicographic.{pointwise, bytes_decides}
+use Rattle.std.specs.Cmp.Lexicographic.{pointwise}
 use Rattle.std.specs.declared.cmp.Ordering.TheVariants.{Less}
-use Rattle.kb_world.specs.Index.{index_paths, depmod_request}
+use Rattle.kb_world.specs.Index.{depmod_request}
 use Rattle.kb_world.specs.Names.{is_kernel}
 use Rattle.kb_world.specs.Path.{Path, path_cmp, child, is_under}
 use Rattle.kb_world.specs.Patch.{Patch, above, dirs_of, emptied_of, in_order, is_listed, put_at}
-use Rattle.kb_world.specs.Public.{IsAlwaysPublic, is_private, intent_path, staging_path}
 use Rattle.kb_world.specs.Roots.{AreApart, is_below}
 use Rattle.kb_world.specs.Targets.{last_name}
 use Rattle.kb_world.specs.Tree.{sole, name_in}
 use Rattle.kb_world.specs.TreeLaws.{same_path, same_path-true, same_path-refl, same_path-false}
 use Rattle.kb_world.specs.View.{index_names}
-use Rattle.kb_world.specs.declared.child.Area.TheVariants as areas
 use Rattle.kb_world.specs.declared.child.Request.{Request}
 use Rattle.kb_world.specs.declared.roots.Roots.{Roots}
 use Rattle.kb_world.specs.declared.tree.Node.{Node}
 use Rattle.kb_world.proofs.PathLaws.{under-append, under-self, under-split, elsewhere, drop-front, by_test}
 use Rattle.kb_world.proofs.PublicLaws.{written_apart}
-use Rattle.kb_world.proofs.AboveLaws.{above-below, above-dkms, AreAll, all-append, all-filter, each-listed}
+use Rattle.kb_world.proofs.AboveLaws.{above-below, above-dkms, AreAll, all-append, each-listed}
 use Rattle.kb_world.proofs.ListedLaws.{listed-append, listed-reverse, listed-in_order, neither}
 use Rattle.kb_world.proofs.OrderLaws.{IsRising, IsFalling, in_order_rises, reverse-falls, below-rises, less-once, any-found, any-of}
 use Rattle.kb_changes.specs.Change.{root_path, staged_path}
-use Rattle.kb_changes.specs.Changes.{root_of, nodes_below, numbered, drops_of, scratches, changes_of}
-use Rattle.kb_changes.specs.Fit.{IsPlacedPath, coming_paths, MayStand, IsIndexing, IsFitRequest, idle, indexing}
+use Rattle.kb_changes.specs.Changes.{root_of, nodes_below, numbered_puts, drops_of, scratches, changes_of}
+use Rattle.kb_changes.specs.Fit.{IsPlacedPath, MayStand, IsFitRequest, idle, indexing}
 use Rattle.kb_changes.specs.Groups.{staged_of, drops_in, wipes_in, drop_dirs_in, first_drop_dirs, second_drop_dirs, dirs_in, targets_in, runs_in}
 use Rattle.kb_changes.specs.Valid.{deepest_first, deepest_last, is_among_paths, none_among, none_under, none_below, all_differ, is_version_dir, is_scratch_wiped, written_roots, new_intent_path, kept_out_paths, is_kept_out, is_initrd_name, is_initrd, is_changeable, is_well_placed, is_kernel_name, same_paths, is_fit_area, is_fit_run, are_ordered, are_targets_kept, are_dirs_kept, are_well_placed, are_fit_runs, is_valid}
 use Rattle.kb_changes.specs.declared.change.Change.{Change}
 use Rattle.kb_changes.specs.declared.change.Change.TheVariants.{Dir, Put, Drop, DropDir, Wipe, Run}
 use Rattle.kb_changes.specs.declared.change.RootName.{RootName}
-use Rattle.kb_changes.specs.declared.change.RootName.TheVariants as root_name
 use Rattle.kb_changes.proofs.PatchGroups.{grouped, groups_in_order, drops_are, wipes_are, dirs_are, targets_are, staged_are, drop_dirs_are, runs_are, one_group}
 use Rattle.kb_changes.proofs.PatchParents.{or_right, either, not_true, found-flat_map, nth_listed, rooted_at, directories-over, below-append, below-trans}
 use Rattle.kb_changes.proofs.PatchPuts.{root-under, staged_apart, open_no_private, count-most, count-grows, own_node, below-append-nodes}
 use Rattle.kb_changes.proofs.PatchDone.{self_listed, drops_listed}
-use Rattle.kb_changes.proofs.PatchPlaces.{under-trans, child-under, private_down, scratch_private, listed_root, found-filter}
+use Rattle.kb_changes.proofs.PatchPlaces.{under-trans, child-under, scratch_private, listed_root, found-filter}
 
 untrue : false ≡ true → ⊥
 untrue e = cc
@@ -90,7 +86,7 @@ target_put (put ∷ puts) q e = by (put_at q puts) refl (either (same_path q put
 module _ (roots : Roots) (apart : AreApart roots) where
   -- the staged places of later puts are others
   later_differ : (root : RootName) (number : ℕ) (earlier puts : List (Path × Node)) → number < length (nodes_below roots root earlier) → length (earlier ++ puts) < 2 ^ 64
-      → is_among_paths (filter_map (staged_of roots) (numbered roots earlier puts)) (staged_path roots root number) ≡ false
+      → is_among_paths (filter_map (staged_of roots) (numbered_puts roots earlier puts)) (staged_path roots root number) ≡ false
   later_differ root number earlier [] behind few = refl
   later_differ root number earlier (put ∷ puts) behind few =
       neither (same_path (staged_path roots root number) (staged_path roots own place)) _
@@ -108,7 +104,7 @@ module _ (roots : Roots) (apart : AreApart roots) where
       later : root ≡ own → number ≡ place → ⊥
       later one same = let counts : length (nodes_below roots root earlier) ≡ place = ap (λ x. length (nodes_below roots x earlier)) one in absurd (omega arith)
 
-  staged_differ : (earlier puts : List (Path × Node)) → length (earlier ++ puts) < 2 ^ 64 → all_differ (filter_map (staged_of roots) (numbered roots earlier puts)) ≡ true
+  staged_differ : (earlier puts : List (Path × Node)) → length (earlier ++ puts) < 2 ^ 64 → all_differ (filter_map (staged_of roots) (numbered_puts roots earlier puts)) ≡ true
   staged_differ earlier [] few = refl
   staged_differ earlier (put ∷ puts) few =
       both_true (ap not (later_differ root number (earlier ++ put ∷ []) puts more few_more)) (staged_differ (earlier ++ put ∷ []) puts few_more)
@@ -369,7 +365,7 @@ module _ (roots : Roots) (apart : AreApart roots) (patch : Patch) (may : MayStan
       let below : is_below q (root_path roots name.0) ≡ true = ap (is_below q) (sym name.1) ∙ found.1 in
       both_true placed (ap (λ r. is_below q (root_path roots r)) (root-under roots apart name.0 q (first_so (is_under q (root_path roots name.0)) _ below)) ∙ below)
 
-  puts_placed : (earlier puts : List (Path × Node)) → AllByRecursion (λ (put : Path × Node). is_listed put.0 sources ≡ true) puts → list_all (is_well_placed roots) (numbered roots earlier puts) ≡ true
+  puts_placed : (earlier puts : List (Path × Node)) → AllByRecursion (λ (put : Path × Node). is_listed put.0 sources ≡ true) puts → list_all (is_well_placed roots) (numbered_puts roots earlier puts) ≡ true
   puts_placed earlier [] listed = refl
   puts_placed earlier (put ∷ puts) listed = both_true (well_placed_put put.0 (length (nodes_below roots (root_of roots put.0) earlier)) listed.0) (puts_placed (earlier ++ put ∷ []) puts listed.1)
 
@@ -451,17 +447,17 @@ module _ (roots : Roots) (apart : AreApart roots) (patch : Patch) (may : MayStan
 
     placed : are_well_placed roots changes ≡ true
     placed =
-        list_all-append (is_well_placed roots) (map Drop (drops_of patch) ++ (map Wipe wipes ++ (map Dir dirs ++ (numbered roots [] patch.puts ++ map DropDir emptied)))) (map Run requests)
+        list_all-append (is_well_placed roots) (map Drop (drops_of patch) ++ (map Wipe wipes ++ (map Dir dirs ++ (numbered_puts roots [] patch.puts ++ map DropDir emptied)))) (map Run requests)
         ∙ both_true (
-          list_all-append (is_well_placed roots) (map Drop (drops_of patch)) (map Wipe wipes ++ (map Dir dirs ++ (numbered roots [] patch.puts ++ map DropDir emptied)))
-          ∙ both_true (each Drop (drops_of patch) (all_of (is_changeable roots) (drops_of patch) drop_placed)) (
-            list_all-append (is_well_placed roots) (map Wipe wipes) (map Dir dirs ++ (numbered roots [] patch.puts ++ map DropDir emptied))
-            ∙ both_true (each Wipe wipes (all_of (is_changeable roots) wipes wipe_placed)) (
-              list_all-append (is_well_placed roots) (map Dir dirs) (numbered roots [] patch.puts ++ map DropDir emptied)
-              ∙ both_true (each Dir dirs (all_of (is_changeable roots) dirs dir_placed)) (
-                list_all-append (is_well_placed roots) (numbered roots [] patch.puts) (map DropDir emptied)
-                ∙ both_true (puts_placed [] patch.puts (AreAll (λ (p : Path × Node). is_listed p.0 targets ≡ true) (λ (p : Path × Node). is_listed p.0 sources ≡ true) (λ p listed. target_source p.0 listed) patch.puts (self_listed patch.puts)))
-                (each DropDir emptied (all_of (is_changeable roots) emptied (λ q listed. of_parts roots q (emptied_placed q listed).0)))))))
+        list_all-append (is_well_placed roots) (map Drop (drops_of patch)) (map Wipe wipes ++ (map Dir dirs ++ (numbered_puts roots [] patch.puts ++ map DropDir emptied)))
+        ∙ both_true (each Drop (drops_of patch) (all_of (is_changeable roots) (drops_of patch) drop_placed)) (
+        list_all-append (is_well_placed roots) (map Wipe wipes) (map Dir dirs ++ (numbered_puts roots [] patch.puts ++ map DropDir emptied))
+        ∙ both_true (each Wipe wipes (all_of (is_changeable roots) wipes wipe_placed)) (
+        list_all-append (is_well_placed roots) (map Dir dirs) (numbered_puts roots [] patch.puts ++ map DropDir emptied)
+        ∙ both_true (each Dir dirs (all_of (is_changeable roots) dirs dir_placed)) (
+        list_all-append (is_well_placed roots) (numbered_puts roots [] patch.puts) (map DropDir emptied)
+        ∙ both_true (puts_placed [] patch.puts (AreAll (λ (p : Path × Node). is_listed p.0 targets ≡ true) (λ (p : Path × Node). is_listed p.0 sources ≡ true) (λ p listed. target_source p.0 listed) patch.puts (self_listed patch.puts)))
+        (each DropDir emptied (all_of (is_changeable roots) emptied (λ q listed. of_parts roots q (emptied_placed q listed).0)))))))
         (runs requests)
       where
         each : (make : Path → Change) (paths : List Path) → list_all (λ p. is_well_placed roots (make p)) paths ≡ true → list_all (is_well_placed roots) (map make paths) ≡ true
@@ -473,9 +469,9 @@ module _ (roots : Roots) (apart : AreApart roots) (patch : Patch) (may : MayStan
 
         wipe_placed : (q : Path) → is_listed q wipes ≡ true → is_changeable roots q ≡ true
         wipe_placed q listed = elim (either (is_listed q patch.wipes) (is_listed q (scratches roots emptied)) (sym (listed-append q patch.wipes (scratches roots emptied)) ∙ listed)) as (λ _. is_changeable roots q ≡ true) [
-            | inl own ↦ (each-listed (IsPlacedPath roots) patch.wipes may.wipes q own).placed
-            | inr scratch ↦ scratch_placed q scratch
-          ]
+          | inl own ↦ (each-listed (IsPlacedPath roots) patch.wipes may.wipes q own).placed
+          | inr scratch ↦ scratch_placed q scratch
+        ]
 
         runs : (rs : List Request) → list_all (is_well_placed roots) (map Run rs) ≡ true
         runs [] = refl

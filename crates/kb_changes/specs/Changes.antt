@@ -32,10 +32,10 @@ abbrev pub nodes_below : Roots → RootName → List (Path × Node) → List Nod
 nodes_below roots root puts = map (λ put. put.1) (filter (λ put. same_root (root_of roots put.0) root) puts)
 
 -- Each put has the number of the earlier ones below its root.
-abbrev pub numbered : Roots → List (Path × Node) → List (Path × Node) → List Change
-numbered roots earlier [] = []
-numbered roots earlier (put ∷ puts) =
-    Put (root_of roots put.0) (length (nodes_below roots (root_of roots put.0) earlier)) put.0 ∷ numbered roots (earlier ++ put ∷ []) puts
+abbrev pub numbered_puts : Roots → List (Path × Node) → List (Path × Node) → List Change
+numbered_puts roots earlier [] = []
+numbered_puts roots earlier (put ∷ puts) =
+    Put (root_of roots put.0) (length (nodes_below roots (root_of roots put.0) earlier)) put.0 ∷ numbered_puts roots (earlier ++ put ∷ []) puts
 
 -- ---- the changes
 
@@ -51,7 +51,7 @@ scratches roots paths = map (λ path. child path (codes "build")) (filter (is_ve
 unfoldable pub changes_of : Roots → Patch → List Change
 changes_of roots patch =
     map Drop (drops_of patch)
-    ++ (map Wipe (patch.wipes ++ scratches roots (emptied_of roots patch)) ++ (map Dir (dirs_of roots patch) ++ (numbered roots [] patch.puts ++ map DropDir (emptied_of roots patch))))
+    ++ (map Wipe (patch.wipes ++ scratches roots (emptied_of roots patch)) ++ (map Dir (dirs_of roots patch) ++ (numbered_puts roots [] patch.puts ++ map DropDir (emptied_of roots patch))))
 
 -- ---- what is staged
 
