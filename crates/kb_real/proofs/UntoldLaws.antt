@@ -1,9 +1,11 @@
 -- What calls do to a world and a sink that tell their counts of faults alone.
-use Rattle.std.proofs.Common.{◌≡◌, ℕ, ◌≤◌, Bool, List, Result, Ok, Err, OnOk, IsErrOf, refl, inl, arith}
+use Rattle.std.proofs.Common.{◌≡◌, ℕ, ◌≤◌, Bool, List, Result, Ok, Err, OnOk, OnErr, IsErrOf, refl, [], inl, arith}
 use Rattle.std.proofs.lemmas.Option.{none-some}
 use Rattle.kb_world.specs.Path.{Path}
 use Rattle.kb_world.specs.Tree.{Tree}
-use Rattle.kb_world.specs.State.{HasCause, Lasts, RanNone, Looks, Changes, Puts, Runs, Rose}
+use Rattle.kb_world.specs.State.{HasCause, Lasts, RanNone, Looks, Changes, Puts, Runs, Settles, NoneForgotten, Rose}
+use Rattle.kb_world.specs.Crash.{Adds, Turns}
+use Rattle.kb_world.specs.declared.child.Area.{Area}
 use Rattle.kb_world.specs.declared.child.Request.{Request}
 use Rattle.kb_world.specs.declared.child.Reply.{Reply}
 use Rattle.kb_world.specs.SinkState.{Writes}
@@ -30,13 +32,24 @@ untold_cause before after result later faults = record {
 untold_lasts : (before after : ℕ) → Lasts (untold before) (untold after)
 untold_lasts before after = record { roots = refl; script = refl; told = refl }
 
+-- such a world tells no moments
+untold_adds : (Has : Tree → Type 0) (before after : ℕ) → Adds Has (untold before).history (untold after).history
+untold_adds Has before after = record { moments = []; added = refl; only = λ image left. absurd left }
+
+untold_turns : (Early Late : Tree → Type 0) (before after : ℕ) → Turns Early Late (untold before).history (untold after).history
+untold_turns Early Late before after = record { early = []; late = []; added = refl; early_only = λ image left. absurd left; late_only = λ image left. absurd left }
+
+-- and of no tree a crash could leave anything
+untold_forgets_none : (before after : ℕ) → NoneForgotten (untold before) (untold after)
+untold_forgets_none before after image left = absurd left
+
 untold_ran_none : (before after : ℕ) → RanNone (untold before) (untold after)
 untold_ran_none before after = record { ran = refl; lasts = untold_lasts before after }
 
 pub untold_looks : {T : Type 0} (before after : ℕ) (result : Result T WorldError) → before ≤ after → after ≡ faults_after result before
     → Looks (untold before) (untold after) result
 untold_looks before after result later faults = record {
-  unchanged = record { tree = refl; ran_none = untold_ran_none before after };
+  unchanged = record { tree = refl; history = refl; ran_none = untold_ran_none before after };
   cause = untold_cause before after result later faults;
 }
 
@@ -50,6 +63,9 @@ untold_changes change before after result later faults = record {
   done = on_ok result _ refl;
   failed = λ _. inl refl;
   no_memory = λ _. refl;
+  soft = refl;
+  moments = untold_turns _ _ before after;
+  none_forgotten = untold_forgets_none before after;
   ran_none = untold_ran_none before after;
   cause = untold_cause before after result later faults;
 }
@@ -60,6 +76,10 @@ untold_puts path bytes exec before after result later faults = record {
   done = on_ok result _ refl;
   failed = λ _. inl refl;
   no_memory = λ _. refl;
+  soft = refl;
+  moments = untold_adds _ before after;
+  none_forgotten = untold_forgets_none before after;
+  torn = λ tried image left. absurd left;
   ran_none = untold_ran_none before after;
   cause = untold_cause before after result later faults;
 }
@@ -68,7 +88,28 @@ pub untold_runs : (request : Request) (before after : ℕ) (result : Result Repl
     → Runs request (untold before) (untold after) result
 untold_runs request before after result later faults = record {
   ends = λ tree told. absurd (none-some tree told);
+  begun = inl (record { tree = refl; soft = refl });
+  given = λ tried tree told. absurd (none-some tree told);
+  moments = untold_adds _ before after;
+  none_forgotten = untold_forgets_none before after;
+  inside = λ tried image left. absurd left;
   lasts = untold_lasts before after;
+  cause = untold_cause before after result later faults;
+}
+
+on_err : {T : Type 0} (result : Result T WorldError) (P : Type 0) → P → OnErr result P
+on_err (Ok value) P holds = tt
+on_err (Err error) P holds = holds
+
+pub untold_settles : {T : Type 0} (area : Area) (before after : ℕ) (result : Result T WorldError) → before ≤ after → after ≡ faults_after result before
+    → Settles area (untold before) (untold after) result
+untold_settles area before after result later faults = record {
+  tree = refl;
+  soft = on_ok result _ refl;
+  soft_err = on_err result _ refl;
+  moments = untold_adds _ before after;
+  none_forgotten = untold_forgets_none before after;
+  ran_none = untold_ran_none before after;
   cause = untold_cause before after result later faults;
 }
 

@@ -7,7 +7,7 @@ use Rattle.kb_world.specs.SinkState.{SinkState}
 -- No clause speaks of the roots, the script and the requests of a world that doesn't tell its tree, so the roots are
 -- the usual ones, and the others are empty.
 abbrev pub untold : ℕ → State
-untold faults = record { tree = None; roots = roots_under []; script = []; ran = []; faults = faults; steady = false }
+untold faults = record { tree = None; roots = roots_under []; script = []; ran = []; faults = faults; steady = false; history = record { soft = []; past = [] } }
 
 abbrev pub untold_sink : ℕ → SinkState
 untold_sink faults = record { written = None; faults = faults; steady = false }

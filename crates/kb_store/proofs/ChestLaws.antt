@@ -28,17 +28,17 @@ use Rattle.kb_world.specs.declared.tree.Node.TheVariants as node
 use Rattle.kb_world.proofs.PathLaws.{under-self, by_test}
 use Rattle.kb_world.proofs.StorePathLaws.{place_back}
 use Rattle.kb_world.proofs.DamageLaws.{under-split}
-use Rattle.kb_store.specs.Walking.{paths_below, entries, met_at, is_dir_kind}
+use Rattle.kb_walk.specs.Walking.{paths_below, entries, met_at, is_dir_kind}
 use Rattle.kb_store.specs.Contents.{at_place, chest_of, chest_by, chest_files, kept_paths}
 use Rattle.kb_store.specs.Notes.{list_of}
 use Rattle.kb_store.specs.Chests.{is_file_kind, files_in, chest_met, chests_met}
 use Rattle.kb_store.specs.declared.store.Chest.{Chest}
-use Rattle.kb_store.specs.declared.walking.Met.{Met}
-use Rattle.kb_store.proofs.OrderLaws.{names_exact, untrue, rises}
+use Rattle.kb_walk.specs.declared.walking.Met.{Met}
+use Rattle.kb_walk.proofs.OrderLaws.{names_exact, untrue, rises}
 use Rattle.kb_store.proofs.ToldByEntries.{open_place, below_place}
-use Rattle.kb_store.proofs.VisitLaws.{dir_of}
-use Rattle.kb_store.proofs.LimitLaws.{between}
-use Rattle.kb_store.proofs.MemberLaws.{entries_rise}
+use Rattle.kb_walk.proofs.VisitLaws.{dir_of}
+use Rattle.kb_walk.proofs.LimitLaws.{between}
+use Rattle.kb_walk.proofs.MemberLaws.{entries_rise}
 
 -- ---- what is under a path stands behind it, before all that isn't
 

@@ -18,7 +18,7 @@ use Rattle.kb_world.specs.Targets.{last_name}
 use Rattle.kb_world.specs.TreeLaws.{paths_total, paths_exact}
 use Rattle.kb_store.specs.Accessors.{claim_cmp, least_claim, claims_at}
 use Rattle.kb_store.specs.Claims.{lesser}
-use Rattle.kb_store.proofs.OrderLaws.{untrue}
+use Rattle.kb_walk.proofs.OrderLaws.{untrue}
 
 -- what a claim tells
 abbrev pub Told : Type 0

@@ -23,7 +23,8 @@ use Rattle.kb_world.specs.declared.store_path.StorePath.{StorePath}
 use Rattle.kb_world.specs.declared.store_path.StorePath.TheVariants.{SourceLink, Targets, KernelLink, InChest}
 use Rattle.kb_world.specs.declared.tree.Node.{Node}
 use Rattle.kb_world.proofs.StorePathLaws.{place_below}
-use Rattle.kb_store.specs.Contents.{at_place, build_of, build_by, installation_of, installation_by, chest_of, chest_by, chest_files, kept_paths, store_of, rises}
+use Rattle.kb_store.specs.Contents.{at_place, build_of, build_by, installation_of, installation_by, chest_of, chest_by, chest_files, kept_paths, store_of}
+use Rattle.kb_walk.specs.Walking.{rises}
 use Rattle.kb_store.specs.Accessors.{added_in, builds_in, installed_in, kept_in, is_build, is_installation, is_chest, same_spot}
 use Rattle.kb_store.specs.declared.store.Build.{Build}
 use Rattle.kb_store.specs.declared.store.Installation.{Installation}

@@ -19,11 +19,12 @@ use Rattle.kb_world.specs.declared.store_path.StorePath.{StorePath}
 use Rattle.kb_world.specs.declared.store_path.StorePath.TheVariants.{SourceLink, Targets, KernelLink, InChest}
 use Rattle.kb_world.specs.declared.tree.Node.{Node}
 use Rattle.kb_world.proofs.StorePathLaws.{open_some, mapped_from, place_back, place_there}
-use Rattle.kb_store.specs.Contents.{at_place, build_of, build_by, installation_of, installation_by, chest_of, chest_by, rises}
+use Rattle.kb_store.specs.Contents.{at_place, build_of, build_by, installation_of, installation_by, chest_of, chest_by}
+use Rattle.kb_walk.specs.Walking.{rises}
 use Rattle.kb_store.specs.declared.store.Build.{Build}
 use Rattle.kb_store.specs.declared.store.Installation.{Installation}
 use Rattle.kb_store.specs.declared.store.Chest.{Chest}
-use Rattle.kb_store.proofs.WalkLaws.{standing, rises_keys}
+use Rattle.kb_walk.proofs.WalkLaws.{standing, rises_keys}
 
 -- ---- what is found in the list that paths give
 

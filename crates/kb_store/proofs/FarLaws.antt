@@ -30,9 +30,9 @@ use Rattle.kb_world.proofs.SpotLaws.{not_true}
 use Rattle.kb_world.proofs.StorePathLaws.{place_back}
 use Rattle.kb_store.specs.Notes.{version_above, version_within, is_deep, is_far, entries_if, version_entries}
 use Rattle.kb_store.specs.Read.{store_entries, first_refusal}
-use Rattle.kb_store.proofs.OrderLaws.{in_front, untrue, names_exact, is_in, in_more, rises}
-use Rattle.kb_store.proofs.MemberLaws.{not_itself, not_both, less_through, neither_less, front_or_behind, in_filter, in_entries, entries_rise, in_left, in_right, in_either, in_flat, flat_in, in_map, rises_behind, later_than}
-use Rattle.kb_store.proofs.WalkLaws.{below_more, cmp-append}
+use Rattle.kb_walk.proofs.OrderLaws.{in_front, untrue, names_exact, is_in, in_more, rises}
+use Rattle.kb_walk.proofs.MemberLaws.{not_itself, not_both, less_through, neither_less, front_or_behind, in_filter, in_entries, entries_rise, in_left, in_right, in_either, in_flat, flat_in, in_map, rises_behind, later_than}
+use Rattle.kb_walk.proofs.WalkLaws.{below_more, cmp-append}
 use Rattle.kb_store.proofs.ToldByEntries.{harms_told}
 
 -- ---- the least path

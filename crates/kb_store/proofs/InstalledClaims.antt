@@ -30,7 +30,7 @@ use Rattle.kb_store.specs.declared.store.Store.{Store}
 use Rattle.kb_store.proofs.ClaimLaws.{Told, IsIn, IsLeast, all_at, in_front, in_back, up_to, least_is}
 use Rattle.kb_store.proofs.ContentsLaws.{key_is, spot_is, builds_are, installed_is}
 use Rattle.kb_store.proofs.EntryLaws.{build_place, build_tells, path_told}
-use Rattle.kb_store.proofs.OrderLaws.{untrue}
+use Rattle.kb_walk.proofs.OrderLaws.{untrue}
 use Rattle.kb_store.proofs.ToldIsThere.{linked_version}
 
 -- ---- claims of lists

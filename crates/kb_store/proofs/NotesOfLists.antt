@@ -14,8 +14,8 @@ use Rattle.kb_world.specs.Damage.{least, harm_at}
 use Rattle.kb_world.specs.declared.roots.Roots.{Roots}
 use Rattle.kb_store.specs.Notes.{told_build, told_installation, list_of, first_of_two, noted, noted_all, notes_of, no_notes}
 use Rattle.kb_store.specs.declared.notes.Notes.{Notes}
-use Rattle.kb_store.proofs.OrderLaws.{less}
-use Rattle.kb_store.proofs.MemberLaws.{less_then}
+use Rattle.kb_walk.proofs.OrderLaws.{less}
+use Rattle.kb_walk.proofs.MemberLaws.{less_then}
 
 -- ---- the first of paths
 

@@ -18,8 +18,8 @@ use Rattle.kb_store.specs.Contents.{build_of}
 use Rattle.kb_store.specs.Notes.{harmed, noted_all, absence_noted, files_noted, places_noted, box_noted}
 use Rattle.kb_store.specs.declared.notes.Notes.{Notes}
 use Rattle.kb_store.specs.declared.store.Build.{Build}
-use Rattle.kb_store.specs.declared.walking.Met.{Met}
-use Rattle.kb_store.proofs.LookLaws.{Quiet, quiet_then}
+use Rattle.kb_walk.specs.declared.walking.Met.{Met}
+use Rattle.kb_world.proofs.LookLaws.{Quiet, quiet_then}
 use Rattle.kb_store.proofs.NotesOfPlaces.{harmed_then}
 
 -- the modules' files that are no files

@@ -1,6 +1,7 @@
 -- The names of places.
-use Rattle.std.proofs.Common.{◌≡◌, ℕ, ◌-◌, ◌<◌, Bool, true, false, ◌&&◌, ◌||◌, List, [], ◌∷◌, ◌++◌, length, take, drop, map, get_or, nat_eq, Bor, suc, Some, None, codes, refl, sym, ap, ◌∙◌, subst, arith, length-append}
-use Rattle.std.proofs.Math.Seq.{take-append_seam, drop-append_seam, take-length}
+use Rattle.std.proofs.Common.{◌≡◌, ℕ, ◌-◌, ◌≤◌, Bool, true, false, ◌&&◌, ◌||◌, List, [], ◌∷◌, ◌++◌, length, take, drop, map, get_or, Bor, suc, Some, None, codes, refl, sym, ap, ◌∙◌, subst, arith, length-append}
+use Rattle.std.proofs.Math.Seq.{take-append_seam, drop-append_seam}
+use Rattle.std.proofs.Math.Bool.{and_assoc}
 use Rattle.std.proofs.lemmas.List.{take-append-drop}
 use Rattle.std.specs.Prelude.{bytes_eq, slice_get}
 use Rattle.std.proofs.lemmas.List.Folds.{list_all-append}
@@ -42,28 +43,27 @@ last_name_at (first ∷ next ∷ rest) name h =
     last_name_at (next ∷ rest) name (sym (ap (slice_get (first ∷ next ∷ rest)) long) ∙ h)
 
 -- words before the last name
-pub leads_more : (name : List ℕ) (names : Path) → 0 < length names → leads_to_module (name ∷ names) ≡ (is_word name && leads_to_module names)
-leads_more name [] h = absurd (omega arith)
-leads_more name (next ∷ rest) h = refl
+pub leads_all : (names : List (Bor (List ℕ))) (d : Bor (List ℕ)) → 1 ≤ length names
+    → leads_to_module (map (λ name. name.now) names) ≡ (list_all (λ name. is_word name.now) (take (length names - 1) names) && is_module_file (get_or names (length names - 1) d).now)
+leads_all [] d some = absurd (omega (arith, some))
+leads_all (x ∷ []) d some = refl
+leads_all (x ∷ y ∷ rest) d some =
+    let shorter : length (x ∷ y ∷ rest) - 1 ≡ suc (length (y ∷ rest) - 1) = omega arith in
+    ap (λ b. is_word x.now && b) (leads_all (y ∷ rest) d (omega arith))
+    ∙ sym (and_assoc (is_word x.now) (list_all (λ name. is_word name.now) (take (length (y ∷ rest) - 1) (y ∷ rest))) (is_module_file (get_or (y ∷ rest) (length (y ∷ rest) - 1) d).now))
+    ∙ sym (ap (λ n. list_all (λ name. is_word name.now) (take n (x ∷ y ∷ rest)) && is_module_file (get_or (x ∷ y ∷ rest) n d).now) shorter)
 
-abbrev now : List (Bor (List ℕ)) → Path
-now names = map (λ name. name.now) names
+abbrev words_first : List (Bor (List ℕ)) → Bool
+words_first names = list_all (λ name. is_word name.now) (take (length names - 1) names)
 
--- the names behind the first, as a pattern takes them
-abbrev behind : List (Bor (List ℕ)) → List (Bor (List ℕ))
-behind names = take (length names - 1) (drop 1 names)
+pub leads_then : (names : List (Bor (List ℕ))) (d : Bor (List ℕ)) (words last : Bool) → 1 ≤ length names → words ≡ words_first names → words ≡ true
+    → last ≡ is_module_file (get_or names (length names - 1) d).now → last ≡ leads_to_module (map (λ name. name.now) names)
+leads_then names d words last some is told file = file ∙ sym (leads_all names d some ∙ ap (λ b. b && is_module_file (get_or names (length names - 1) d).now) (sym is ∙ told))
 
-abbrev pub behind_names : List (Bor (List ℕ)) → Path
-behind_names names = now (behind names)
-
-pub leads_both : (names : List (Bor (List ℕ))) (d : Bor (List ℕ)) → nat_eq (length (take (length names - 1) (drop 1 names))) 0 ≡ false
-    → leads_to_module (map (λ name. name.now) names) ≡ (is_word (get_or names 0 d).now && leads_to_module (map (λ name. name.now) (take (length names - 1) (drop 1 names))))
-leads_both [] d h = let impossible : true ≡ false = h in cc
-leads_both (x ∷ []) d h = let impossible : true ≡ false = h in cc
-leads_both (x ∷ y ∷ rest) d h =
-    let long : length (x ∷ y ∷ rest) - 1 ≡ length (y ∷ rest) = omega arith in
-    let all : take (length (x ∷ y ∷ rest) - 1) (y ∷ rest) ≡ y ∷ rest = ap (λ n. take n (y ∷ rest)) long ∙ take-length (y ∷ rest) in
-    ap (λ r. is_word x.now && leads_to_module (now r)) (sym all)
+pub leads_else : (names : List (Bor (List ℕ))) (words : Bool) → 1 ≤ length names → words ≡ words_first names → words ≡ false → words ≡ leads_to_module (map (λ name. name.now) names)
+leads_else [] words some is told = absurd (omega (arith, some))
+leads_else (x ∷ names) words some is told =
+    told ∙ sym (leads_all (x ∷ names) x some ∙ ap (λ b. b && is_module_file (get_or (x ∷ names) (length (x ∷ names) - 1) x).now) (sym is ∙ told))
 
 -- a word with the ending names an entry of a directory
 pub file_named : (name : List ℕ) → is_module_file name ≡ true → is_name name ≡ true
@@ -98,6 +98,9 @@ area_named name h = by (bytes_eq name (codes "kernel")) (bytes_eq name (codes "u
 pub place_named : (names : Path) → is_place names ≡ true → list_all is_name names ≡ true
 place_named [] h = let q : true ≡ false = sym h in cc
 place_named (area ∷ names) h = both_true (area_named area (first_so (is_area area) (leads_to_module names) h)) (names_named names (second_so (is_area area) (leads_to_module names) h))
+
+abbrev now : List (Bor (List ℕ)) → Path
+now names = map (λ name. name.now) names
 
 -- the same of the texts that are made of parts
 pub parts_named : (parts told : List (Bor (List ℕ))) (texts : Path) → texts ≡ now parts → told ≡ parts → is_place (now told) ≡ true → list_all is_name texts ≡ true

@@ -34,11 +34,11 @@ use Rattle.kb_world.proofs.StorePathLaws.{place_back}
 use Rattle.kb_store.specs.Contents.{at_place, build_by, installation_by, chest_by, chest_files, store_of}
 use Rattle.kb_store.specs.Notes.{linked, first_of_two}
 use Rattle.kb_store.specs.Read.{store_entries, is_too_deep, read_of, over, first_refusal, store_unless}
-use Rattle.kb_store.proofs.OrderLaws.{in_front, is_in, in_more}
-use Rattle.kb_store.proofs.MemberLaws.{in_filter, in_entries, entries_rise, rises_filter, map_same, same_members}
+use Rattle.kb_walk.proofs.OrderLaws.{in_front, is_in, in_more}
+use Rattle.kb_walk.proofs.MemberLaws.{in_filter, in_entries, entries_rise, rises_filter, map_same, same_members}
 use Rattle.kb_store.proofs.ToldByEntries.{AreAlike, then_same, place_same, build_same, installation_same, chest_same, told_by_entries, harms_told}
 use Rattle.kb_store.proofs.ToldIsThere.{linked_version}
-use Rattle.kb_store.proofs.WalkLaws.{rises_keys, standing}
+use Rattle.kb_walk.proofs.WalkLaws.{rises_keys, standing}
 
 -- whatever stands below the dkms root at a path that isn't private is public
 open_below : (roots : Roots) → AreApart roots → (path : Path) → is_private roots path ≡ false → is_below path roots.dkms ≡ true → IsAlwaysPublic roots path

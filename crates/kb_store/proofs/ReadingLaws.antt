@@ -28,21 +28,22 @@ use Rattle.kb_world.specs.declared.refusal.Refusal.{Refusal}
 use Rattle.kb_store.specs.Contents.{at_place, build_by, installation_by, chest_by, chest_files, store_of}
 use Rattle.kb_store.specs.Notes.{linked, told_build, told_installation, noted, noted_all, no_notes, notes_of, version_above, version_within, version_entries}
 use Rattle.kb_store.specs.Read.{store_entries, first_refusal, over, store_refusal, store_unless, read_of, entries_over, paths_met, IsReading, IsWholeReading}
-use Rattle.kb_store.specs.Walking.{walked, LIMITS, met_at}
+use Rattle.kb_walk.specs.Walking.{walked, LIMITS, met_at}
 use Rattle.kb_store.specs.declared.notes.Notes.{Notes}
 use Rattle.kb_store.specs.declared.read.Reading.{Reading}
 use Rattle.kb_store.specs.declared.store.Build.{Build}
 use Rattle.kb_store.specs.declared.store.Installation.{Installation}
 use Rattle.kb_store.specs.declared.store.Chest.{Chest}
 use Rattle.kb_store.specs.declared.store.Store.{Store}
-use Rattle.kb_store.specs.declared.walking.Met.{Met}
-use Rattle.kb_store.specs.declared.walking.Walk.{Walk}
+use Rattle.kb_walk.specs.declared.walking.Met.{Met}
+use Rattle.kb_walk.specs.declared.walking.Walk.{Walk}
 use Rattle.kb_store.proofs.FarLaws.{far_harms}
-use Rattle.kb_store.proofs.LimitLaws.{met_all, met_before, over_is}
-use Rattle.kb_store.proofs.MemberLaws.{in_entries}
-use Rattle.kb_store.proofs.OrderLaws.{is_in, in_front, in_more}
+use Rattle.kb_walk.proofs.LimitLaws.{met_all, met_before}
+use Rattle.kb_store.proofs.StoreLimitLaws.{over_is}
+use Rattle.kb_walk.proofs.MemberLaws.{in_entries}
+use Rattle.kb_walk.proofs.OrderLaws.{is_in, in_front, in_more}
 use Rattle.kb_store.proofs.NotesOfLists.{noted_all_is}
-use Rattle.kb_store.proofs.WalkLaws.{dir_above, standing}
+use Rattle.kb_walk.proofs.WalkLaws.{dir_above, standing}
 use Rattle.kb_store.proofs.ToldByEntries.{told_by_entries, harms_told}
 use Rattle.kb_store.proofs.ToldIsThere.{told_builds_held, told_installations_held}
 use Rattle.kb_store.proofs.ReadLaws.{unhurt}

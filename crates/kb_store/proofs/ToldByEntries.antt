@@ -23,9 +23,9 @@ use Rattle.kb_world.proofs.SpotLaws.{not_true}
 use Rattle.kb_world.proofs.StorePathLaws.{place_back}
 use Rattle.kb_store.specs.Contents.{at_place, build_of, build_by, installation_of, installation_by, chest_of, chest_by}
 use Rattle.kb_store.specs.Read.{store_entries}
-use Rattle.kb_store.specs.Walking.{paths_below, entries}
-use Rattle.kb_store.proofs.OrderLaws.{untrue}
-use Rattle.kb_store.proofs.WalkLaws.{below_more}
+use Rattle.kb_walk.specs.Walking.{paths_below, entries}
+use Rattle.kb_walk.proofs.OrderLaws.{untrue}
+use Rattle.kb_walk.proofs.WalkLaws.{below_more}
 
 -- ---- lists
 

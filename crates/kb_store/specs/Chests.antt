@@ -6,9 +6,9 @@ use Rattle.kb_world.specs.declared.roots.Roots.{Roots}
 use Rattle.kb_world.specs.declared.tree.Kind.{Kind}
 use Rattle.kb_world.specs.declared.tree.Kind.TheVariants as kind
 use Rattle.kb_store.specs.Contents.{at_place, chest_by}
-use Rattle.kb_store.specs.Walking.{is_dir_kind}
+use Rattle.kb_walk.specs.Walking.{is_dir_kind}
 use Rattle.kb_store.specs.declared.store.Chest.{Chest}
-use Rattle.kb_store.specs.declared.walking.Met.{Met}
+use Rattle.kb_walk.specs.declared.walking.Met.{Met}
 
 abbrev pub is_file_kind : Kind → Bool
 is_file_kind (kind.File len exec) = true

@@ -1,10 +1,8 @@
 -- What a store holds, as lists in the order of paths. After the tool dkms, and this project's own.
 use Rattle.std.specs.Prelude.{ℕ, Bool, true, ◌&&◌, cond, List, [], ◌∷◌, map, Option, Some, None, filter_map, option_and_then}
 use Rattle.std.specs.Option.{option_map}
-use Rattle.std.specs.List.{list_all}
-use Rattle.std.specs.Ordering.{is_lt}
 use Rattle.std.specs.FinMap.{keys}
-use Rattle.kb_world.specs.Path.{Path, path_cmp}
+use Rattle.kb_world.specs.Path.{Path}
 use Rattle.kb_world.specs.StorePath.{store_path}
 use Rattle.kb_world.specs.Tree.{Tree, node_at, is_dir}
 use Rattle.kb_world.specs.Store.{added}
@@ -73,11 +71,6 @@ abbrev pub chest_list : Roots → Tree → List Chest
 chest_list roots store = filter_map (at_place roots (chest_by (chest_files roots store))) (keys store)
 
 -- ---- the order
-
--- each path is less than all behind it
-abbrev pub rises : List Path → Bool
-rises [] = true
-rises (path ∷ paths) = list_all (λ other. is_lt (path_cmp path other)) paths && rises paths
 
 -- ---- all of it
 

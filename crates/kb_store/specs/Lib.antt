@@ -6,4 +6,3 @@ pub mod Notes
 pub mod PrivateLaws
 pub mod Read
 pub mod Reading
-pub mod Walking

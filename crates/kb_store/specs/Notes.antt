@@ -14,7 +14,7 @@ use Rattle.kb_world.specs.declared.job.Spot.{Spot}
 use Rattle.kb_world.specs.declared.store_path.StorePath.{StorePath}
 use Rattle.kb_world.specs.declared.store_path.StorePath.TheVariants.{SourceLink, Targets, KernelLink}
 use Rattle.kb_store.specs.Contents.{at_place, build_by, build_of, installation_by, installation_of}
-use Rattle.kb_store.specs.Walking.{entries}
+use Rattle.kb_walk.specs.Walking.{entries}
 use Rattle.kb_store.specs.declared.store.Build.{Build}
 use Rattle.kb_store.specs.declared.store.Installation.{Installation}
 use Rattle.kb_store.specs.declared.notes.Notes.{Notes}

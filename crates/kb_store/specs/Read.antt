@@ -10,13 +10,13 @@ use Rattle.kb_world.specs.declared.roots.Roots.{Roots}
 use Rattle.kb_world.specs.declared.refusal.Refusal.{Refusal}
 use Rattle.kb_world.specs.declared.refusal.Refusal.TheVariants as refusal
 use Rattle.kb_world.specs.Store.{added_at}
-use Rattle.kb_store.specs.Walking.{walked, LIMITS, entries, met_at}
+use Rattle.kb_walk.specs.Walking.{walked, LIMITS, entries, met_at}
 use Rattle.kb_store.specs.Notes.{first_of_two, notes_of, told_build, told_installation, version_entries}
 use Rattle.kb_store.specs.Contents.{store_of}
 use Rattle.kb_store.specs.declared.notes.Notes.{Notes}
 use Rattle.kb_store.specs.declared.read.Reading.{Reading}
 use Rattle.kb_store.specs.declared.store.Store.{Store}
-use Rattle.kb_store.specs.declared.walking.Met.{Met}
+use Rattle.kb_walk.specs.declared.walking.Met.{Met}
 
 -- the entries of the dkms root in the order of paths, without private ones
 abbrev pub store_entries : Roots → Tree → List Path

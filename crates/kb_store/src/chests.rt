@@ -7,11 +7,11 @@ ghost use Rattle.kb_world.specs.Tree.{Tree};
 ghost use Rattle.kb_store.specs.Chests as told;
 ghost use Rattle.kb_store.specs.Contents.{at_place, chest_by, chest_files};
 ghost use Rattle.kb_store.specs.Notes.{list_of};
-ghost use Rattle.kb_store.specs.Walking.{entries, met_at};
+ghost use Rattle.kb_walk.specs.Walking.{entries, met_at};
 
 use crate::place::Places;
 use crate::store::Chest;
-use crate::walking::Met;
+use kb_walk::Met;
 use kb_world::{Kind, Path, RelPath, Roots, Sequence, StorePath, Text};
 use std::alloc::{AllocError, Global};
 

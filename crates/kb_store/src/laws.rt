@@ -10,7 +10,8 @@ ghost use Rattle.kb_world.specs.Steps.{kept_files};
 ghost use Rattle.kb_world.specs.declared.roots.Roots.{Roots};
 ghost use Rattle.kb_world.specs.declared.job.Key.{Key};
 ghost use Rattle.kb_world.specs.declared.job.Spot.{Spot};
-ghost use Rattle.kb_store.specs.Contents.{store_of, rises};
+ghost use Rattle.kb_store.specs.Contents.{store_of};
+ghost use Rattle.kb_walk.specs.Walking.{rises};
 ghost use Rattle.kb_store.specs.Accessors.{added_in, builds_in, installed_in, kept_in, claimant_in, is_build};
 ghost use Rattle.kb_store.specs.Claims.{IsLeastClaim};
 

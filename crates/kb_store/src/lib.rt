@@ -1,5 +1,5 @@
 //! What stands below the dkms root, read as a store: the added packages, the builds, the installed versions and the
-//! kept files. Also the file `targets` of a build, and a walk over the entries of a directory.
+//! kept files. Also the file `targets` of a build.
 #![tactic(auto)]
 
 mod chests;
@@ -11,10 +11,8 @@ mod private;
 mod read;
 mod store;
 mod targets;
-mod walking;
 
 pub use laws::{a_store_tells_its_parts, the_lists_of_a_store_rise};
 pub use place::Places;
 pub use store::{Build, Claim, Store};
 pub use targets::{read_targets, write_targets};
-pub use walking::{LIMITS, Limits, Met, Skips, Walk, walk_all, walk_below};

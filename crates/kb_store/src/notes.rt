@@ -14,7 +14,7 @@ ghost use Rattle.kb_store.specs.Notes.{no_notes, harmed, source_noted, link_note
 use crate::entries::{is_added, linked_at, places_at};
 use crate::place::last_name;
 use crate::store::{Build, Installation};
-use crate::walking::Met;
+use kb_walk::Met;
 use kb_world::{
     Key, Kind, Path, RelPath, Roots, Sequence, Spot, StorePath, Text, World, WorldError,
 };

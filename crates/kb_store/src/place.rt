@@ -1,6 +1,7 @@
 // Places of modules, as lists of names below a kernel's directory.
 ghost use Rattle.std.specs.Prelude.{◌≡◌, ◌++◌, List, ℕ, MatchOption, map, codes};
 ghost use Rattle.std.specs.List.{list_all};
+ghost use Rattle.kb_world.specs.Names.{is_word};
 ghost use Rattle.kb_world.specs.Targets as rule;
 
 use kb_world::{RelPath, Sequence, is_word};
@@ -30,19 +31,19 @@ fn is_area(name: &str) -> bool
     name == "kernel" || name == "updates" || name == "extra"
 }
 
+fn are_all_words(names: &[&str]) -> bool
+    ensures { result ≡ list_all (λ name. is_word name.now) names.now }
+{
+    names.iter().all(|name| is_word(name))
+}
+
 // Whether the names are words, and last a module's file.
 fn leads_to_module(names: &[&str]) -> bool
     ensures { result ≡ rule.leads_to_module (map (λ name. name.now) names.now) }
 {
     match names {
         [] => false,
-        [name, rest @ ..] => {
-            if rest.is_empty() {
-                is_module_file(name)
-            } else {
-                is_word(name) && leads_to_module(rest)
-            }
-        }
+        [front @ .., last] => are_all_words(front) && is_module_file(last),
     }
 }
 

@@ -1,22 +1,10 @@
-// The tool's own paths, which a walk of the store neither counts nor enters.
+// What a walk below a version neither counts nor enters.
 ghost use Rattle.std.specs.Prelude.{◌≡◌};
-ghost use Rattle.kb_world.specs.Public.{is_private};
 ghost use Rattle.kb_store.specs.Notes.{is_deep, is_far};
-ghost use Rattle.kb_store.specs.PrivateLaws.{private_below, far_below};
+ghost use Rattle.kb_store.specs.PrivateLaws.{far_below};
 
-use crate::walking::Skips;
+use kb_walk::Skips;
 use kb_world::{Path, Roots, is_private};
-
-/// Under these roots, the private paths are skipped.
-impl Skips for Roots {
-    ghost skips = { is_private };
-
-    fn skips(&self, path: &Path) -> bool {
-        is_private(self, path)
-    }
-
-    ghost deeper = { private_below };
-}
 
 /// Below a version, paths that are private or more than three names deeper are skipped: behind those nothing tells of a
 /// store.

@@ -14,13 +14,13 @@ ghost use Rattle.kb_store.specs.Contents.{store_of};
 ghost use Rattle.kb_store.specs.Notes.{version_above, version_entries, noted_all, notes_of};
 ghost use Rattle.kb_store.specs.Read as rule;
 ghost use Rattle.kb_store.specs.Read.{IsReading, IsWholeReading, read_of, entries_over};
-ghost use Rattle.kb_store.specs.Walking.{entries, met_at};
+ghost use Rattle.kb_walk.specs.Walking.{entries, met_at};
 
 use crate::chests::chests_of;
 use crate::notes::{Notes, note_all};
 use crate::private::Shallow;
 use crate::store::Store;
-use crate::walking::{LIMITS, Met, Walk, walk_all, walk_below};
+use kb_walk::{LIMITS, Met, Walk, walk_all, walk_below};
 use kb_world::{Path, Refusal, Roots, Stop, World, WorldError};
 use std::alloc::{AllocError, Global};
 

@@ -5,26 +5,13 @@ use Rattle.std.specs.Option.{ForSome}
 use Rattle.std.proofs.lemmas.List.{map-append}
 use Rattle.kb_world.specs.Path.{Path}
 use Rattle.kb_world.specs.Tree.{Tree}
-use Rattle.kb_world.specs.State.{State, Looks, Unchanged}
+use Rattle.kb_world.specs.State.{State, Looks}
 use Rattle.kb_world.specs.declared.roots.Roots.{Roots}
 use Rattle.kb_world.specs.declared.world.WorldError.{WorldError}
-use Rattle.kb_world.proofs.DoesLaws.{unchanged_then}
+use Rattle.kb_world.proofs.LookLaws.{Quiet, quiet_then}
 use Rattle.kb_token.specs.Sources.{contents_in, content_at, path_of_source, all_sources}
 use Rattle.kb_token.specs.declared.sources.Content.{Content}
 use Rattle.kb_token.specs.declared.sources.Source.{Source}
-
--- since then nothing was done but looks that succeeded
-pub record Quiet (old new : State) : Type 0 where
-  pub unchanged : Unchanged old new
-  pub later : old.faults ≤ new.faults
-  pub steady : IsTrue old.steady → IsTrue new.steady
-
-pub quiet_then : {T : Type 0} (old mid new : State) (result : Result T WorldError) → Quiet old mid → Looks mid new result → Quiet old new
-quiet_then old mid new result a b = record {
-  unchanged = unchanged_then old mid new a.unchanged b.unchanged;
-  later = omega (arith, a.later, b.cause.later);
-  steady = λ is. b.cause.steady (a.steady is);
-}
 
 -- what stands at the first sources was read
 pub record HasRead (old new : State) (roots : Roots) (sources : List Source) (contents : List Content) (count : ℕ) : Type 0 where

@@ -34,10 +34,10 @@ pub ran_none_then : (old mid new : State) → RanNone old mid → RanNone mid ne
 ran_none_then old mid new a b = record { ran = b.ran ∙ a.ran; lasts = lasts_then old mid new a.lasts b.lasts }
 
 pub unchanged_none : (state : State) → Unchanged state state
-unchanged_none state = record { tree = refl; ran_none = record { ran = refl; lasts = record { roots = refl; script = refl; told = refl } } }
+unchanged_none state = record { tree = refl; history = refl; ran_none = record { ran = refl; lasts = record { roots = refl; script = refl; told = refl } } }
 
 pub unchanged_then : (old mid new : State) → Unchanged old mid → Unchanged mid new → Unchanged old new
-unchanged_then old mid new a b = record { tree = b.tree ∙ a.tree; ran_none = ran_none_then old mid new a.ran_none b.ran_none }
+unchanged_then old mid new a b = record { tree = b.tree ∙ a.tree; history = b.history ∙ a.history; ran_none = ran_none_then old mid new a.ran_none b.ran_none }
 
 -- ---- an action that may be refused first
 

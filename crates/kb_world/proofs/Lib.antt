@@ -1,10 +1,13 @@
 pub mod AboveLaws
 pub mod AddLaws
+pub mod CrashLaws
 pub mod DamageLaws
 pub mod DoesLaws
 pub mod LayoutLaws
+pub mod LeftLaws
 pub mod LinkLaws
 pub mod ListedLaws
+pub mod LookLaws
 pub mod NameLaws
 pub mod OrderLaws
 pub mod PartLaws

@@ -1,9 +1,12 @@
 -- How actions go on from one another, and calls that do them.
-use Rattle.std.proofs.Common.{◌≡◌, false, List, [], ◌∷◌, ◌++◌, Option, Some, None, refl, sym, ap, ◌∙◌, subst, append_assoc}
+use Rattle.std.proofs.Common.{◌≡◌, ◌⊎◌, inl, inr, Bool, true, false, is_some, List, [], ◌∷◌, ◌++◌, Option, Some, None, refl, sym, ap, ◌∙◌, subst, append_assoc}
 use Rattle.std.proofs.lemmas.List.{append-nil}
 use Rattle.std.specs.Prelude.{ℕ, ◌≤◌, map, IsErrOf, IsTrue, Result, Ok, Err}
 use Rattle.kb_world.specs.Path.{Path}
 use Rattle.kb_world.specs.Tree.{Tree}
+use Rattle.kb_world.specs.TreeLaws.{same_tree}
+use Rattle.kb_world.specs.Area.{IsLeft}
+use Rattle.kb_world.specs.Crash.{LeftOf, Adds}
 use Rattle.kb_world.specs.View.{is_own, view_of}
 use Rattle.kb_world.specs.State.{State, HasCause, Lasts, RanNone, IsReplied, Runs}
 use Rattle.kb_world.specs.Public.{public_tree, foreign_tree}
@@ -29,7 +32,7 @@ use Rattle.kb_world.proofs.LayoutLaws.{view-whole}
 
 -- ---- one outcome after another
 
-last_of-append : (store : Tree) (first second : List Tree) → last_of store (first ++ second) ≡ last_of (last_of store first) second
+pub last_of-append : (store : Tree) (first second : List Tree) → last_of store (first ++ second) ≡ last_of (last_of store first) second
 last_of-append store [] second = refl
 last_of-append store (next ∷ first) second = last_of-append next first second
 
@@ -205,6 +208,37 @@ nothing_after roots script request tree none =
     let edits = map (edit_of view) (answer_in roots script request tree).effects in
     ap (λ area. after_edits area tree edits) none ∙ no_edit tree edits
 
+-- what stands there is as it was
+nothing_left : (tree image : Tree) → IsLeft (areas.Nothing ∷ []) tree image → image ≡ tree
+nothing_left tree image left = same_tree image tree (λ q. elim (left.each q) [ inl same ↦ same | inr soft ↦ let impossible : false ≡ true = soft in cc ])
+
+untold_stays : (old new : State) → old.tree ≡ None → is_some new.tree ≡ is_some old.tree → new.tree ≡ old.tree
+untold_stays old new none told = by new.tree (told ∙ ap is_some none) ∙ sym none
+  where
+    by : (o : Option Tree) → is_some o ≡ false → o ≡ None
+    by None e = refl
+    by (Some tree) e = let impossible : true ≡ false = e in cc
+
+told_or_not : (old new : State) → ((tree : Tree) → old.tree ≡ Some tree → new.tree ≡ old.tree) → is_some new.tree ≡ is_some old.tree → new.tree ≡ old.tree
+told_or_not old new told lasts = by old.tree refl
+  where
+    by : (o : Option Tree) → old.tree ≡ o → new.tree ≡ old.tree
+    by None e = untold_stays old new e lasts
+    by (Some tree) e = told tree e
+
+-- the part of it that holds whatever it answers
+module _ (request : Request) (old new : State) (none : request.area ≡ areas.Nothing) where
+  asked_tree : (result : Result Reply WorldError) → Runs request old new result → new.tree ≡ old.tree
+  asked_tree (Ok reply) r = told_or_not old new (λ tree told. (r.ends tree told).done ∙ ap Some (nothing_after old.roots old.script request tree none) ∙ sym told) r.lasts.told
+  asked_tree (Err Failed) r = told_or_not old new (λ tree told. let cut = (r.ends tree told).0 in cut.1 ∙ ap Some (nothing_left tree cut.0 (subst (λ area. IsLeft (area ∷ []) tree cut.0) none cut.2)) ∙ sym told) r.lasts.told
+  asked_tree (Err world.NoMemory) r = told_or_not old new (λ tree told. let cut = (r.ends tree told).0 in cut.1 ∙ ap Some (nothing_left tree cut.0 (subst (λ area. IsLeft (area ∷ []) tree cut.0) none cut.2)) ∙ sym told) r.lasts.told
+
+  asked_soft : (result : Result Reply WorldError) → Runs request old new result → (new.history.soft ≡ old.history.soft) ⊎ (new.history.soft ≡ areas.Nothing ∷ old.history.soft)
+  asked_soft result r = elim r.begun [ inl same ↦ inl same.soft | inr given ↦ inr (given ∙ ap (λ area. area ∷ old.history.soft) none) ]
+
+  asked_moments : (result : Result Reply WorldError) → Runs request old new result → Adds (LeftOf (areas.Nothing ∷ old.history.soft) old.tree) old.history new.history
+  asked_moments result r = subst (λ area. Adds (LeftOf (area ∷ old.history.soft) old.tree) old.history new.history) none r.moments
+
 pub asks_of_run : (request : Request) (old new : State) (reply : Reply) → request.area ≡ areas.Nothing → Runs request old new (Ok reply) → Asks request old new (Ok reply)
 asks_of_run request old new reply none r = record {
   asked = λ tree told. let is : IsReplied request old new reply tree = r.ends tree told in record {
@@ -212,6 +246,9 @@ asks_of_run request old new reply none r = record {
     same = is.done ∙ ap Some (nothing_after old.roots old.script request tree none);
     ran = is.ran;
   };
+  tree = asked_tree request old new none (Ok reply) r;
+  soft = asked_soft request old new none (Ok reply) r;
+  moments = asked_moments request old new none (Ok reply) r;
   unrefused = λ refusal is. let impossible : Ok reply ≡ Err (Refused refusal) = is in cc;
   lasts = r.lasts;
   cause = record {
@@ -222,9 +259,12 @@ asks_of_run request old new reply none r = record {
   };
 }
 
-pub asks_of_stop : (request : Request) (old new : State) (error : WorldError) → Runs request old new (Err error) → Asks request old new (Err (stop_for error))
-asks_of_stop request old new Failed r = record {
+pub asks_of_stop : (request : Request) (old new : State) (error : WorldError) → request.area ≡ areas.Nothing → Runs request old new (Err error) → Asks request old new (Err (stop_for error))
+asks_of_stop request old new Failed none r = record {
   asked = tt;
+  tree = asked_tree request old new none (Err Failed) r;
+  soft = asked_soft request old new none (Err Failed) r;
+  moments = asked_moments request old new none (Err Failed) r;
   unrefused = λ refusal is. let impossible : unanswered Fault ≡ unanswered (Refused refusal) = is in cc;
   lasts = r.lasts;
   cause = record { later = r.cause.later; rose = λ failed. r.cause.rose refl; steady = r.cause.steady; never = λ told is failed. r.cause.never told is refl };
@@ -232,8 +272,11 @@ asks_of_stop request old new Failed r = record {
   where
     unanswered : Stop → Result Reply Stop
     unanswered stop = Err stop
-asks_of_stop request old new world.NoMemory r = record {
+asks_of_stop request old new world.NoMemory none r = record {
   asked = tt;
+  tree = asked_tree request old new none (Err world.NoMemory) r;
+  soft = asked_soft request old new none (Err world.NoMemory) r;
+  moments = asked_moments request old new none (Err world.NoMemory) r;
   unrefused = λ refusal is. let impossible : unanswered NoMemory ≡ unanswered (Refused refusal) = is in cc;
   lasts = r.lasts;
   cause = record {

@@ -1,11 +1,13 @@
 -- What a call above the world does, told by definitions over trees. This project's own.
-use Rattle.std.specs.Prelude.{◌≡◌, [], ◌∷◌, ◌++◌, IfOk, Option, Some, None, Result, Ok, Err, option_map, OnOk, IsErrOf}
+use Rattle.std.specs.Prelude.{◌≡◌, ◌⊎◌, [], ◌∷◌, ◌++◌, IfOk, Option, Some, None, Result, Ok, Err, option_map, OnOk, IsErrOf}
 use Rattle.std.specs.Option.{ForSome}
 use Rattle.kb_world.specs.Tree.{Tree}
 use Rattle.kb_world.specs.Public.{public_tree, foreign_tree}
-use Rattle.kb_world.specs.State.{State, HasCause, Lasts, RanNone, Unchanged}
+use Rattle.kb_world.specs.Crash.{LeftOf, Adds}
+use Rattle.kb_world.specs.State.{State, HasCause, Lasts, RanNone, Unchanged, IsGiven}
 use Rattle.kb_world.specs.Outcome.{Outcome, Action, last_of}
 use Rattle.kb_world.specs.Script.{answer_in}
+use Rattle.kb_world.specs.declared.child.Area.TheVariants as area
 use Rattle.kb_world.specs.declared.child.Reply.{Reply}
 use Rattle.kb_world.specs.declared.child.Request.{Request}
 use Rattle.kb_world.specs.declared.roots.Roots.{Roots}
@@ -50,6 +52,9 @@ pub record IsAsked (request : Request) (old new : State) (reply : Reply) (tree :
 -- A child that may change nothing is run. The call is never refused.
 pub record Asks (request : Request) (old new : State) (result : Result Reply Stop) : Type 0 where
   pub asked : IfOk result (λ reply. ForSome old.tree (IsAsked request old new reply))
+  pub tree : new.tree ≡ old.tree
+  pub soft : (new.history.soft ≡ old.history.soft) ⊎ IsGiven area.Nothing old new
+  pub moments : Adds (LeftOf (area.Nothing ∷ old.history.soft) old.tree) old.history new.history
   pub unrefused : (refusal : Refusal) → IsErrOf result (Refused refusal) → ⊥
   pub lasts : Lasts old new
   pub cause : HasCause Fault old new result

@@ -1,5 +1,6 @@
 pub mod Area
 pub mod Boxes
+pub mod Crash
 pub mod Damage
 pub mod Does
 pub mod Index

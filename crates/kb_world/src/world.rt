@@ -5,7 +5,7 @@ ghost use Rattle.std.specs.Option.{ForSome};
 ghost use Rattle.kb_world.specs.Moves.{CanMove};
 ghost use Rattle.kb_world.specs.Names.{is_name};
 ghost use Rattle.kb_world.specs.Tree.{node_at, with_node, without, moved, kind_of, link_text, file_bytes, children, is_dir, is_file, is_leaf, CanMake, IsEmptyDir, IsFormed};
-ghost use Rattle.kb_world.specs.State.{State, Looks, Changes, Puts, Runs};
+ghost use Rattle.kb_world.specs.State.{State, Looks, Changes, Puts, Runs, Settles};
 ghost use Rattle.kb_world.specs.declared.tree.Node.TheVariants.{Dir, Link};
 ghost use Rattle.kb_world.specs.declared.world.WorldError.TheVariants.{NoMemory};
 
@@ -114,7 +114,7 @@ pub trait World {
 
     /// Waits until what children left in the area is on the disk.
     fn settle(&mut self, alloc: Global, area: &Area) -> Result<(), WorldError>
-        ensures same { Looks (state self.old) (state self.new) result };
+        ensures settled { Settles area.now (state self.old) (state self.new) result };
 
     /// A tree that is told is formed: what stands there stands in a directory.
     ghost formed: { (world : Self) → ForSome (state world).tree IsFormed };

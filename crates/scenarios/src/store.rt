@@ -10,7 +10,8 @@ use crate::error::LineError;
 use crate::line::Claimed;
 use crate::text::Page;
 use kb_memory::MemoryWorld;
-use kb_store::{Build, Met, Store, walk_all};
+use kb_store::{Build, Store};
+use kb_walk::{Met, walk_all};
 use kb_world::{Node, Refusal, Roots, Spot, Stop, Text};
 use std::alloc::{AllocError, Global};
 

@@ -4,7 +4,7 @@ use Rattle.std.specs.Prelude.{filter_map, List}
 use Rattle.kb_world.specs.Store.{added_at}
 use Rattle.kb_store.specs.Notes.{told_build, told_installation}
 use Rattle.kb_store.specs.Read.{first_refusal, paths_met}
-use Rattle.kb_store.specs.declared.walking.Met.{Met}
+use Rattle.kb_walk.specs.declared.walking.Met.{Met}
 use Rattle.kb_store.proofs.ReadingLaws.{answer_refused, answer_read, answer_sound, answer_whole}
 use Rattle.kb_store.proofs.read.answer.Goals as goal
 

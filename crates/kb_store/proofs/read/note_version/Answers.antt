@@ -3,7 +3,7 @@ use Rattle.std.proofs.Common.{Option, List, sym, ap, ◌∙◌}
 use Rattle.kb_world.specs.Path.{Path}
 use Rattle.kb_store.specs.Notes.{noted_all, entries_if}
 use Rattle.kb_store.specs.Read.{paths_met}
-use Rattle.kb_store.specs.declared.walking.Met.{Met}
+use Rattle.kb_walk.specs.declared.walking.Met.{Met}
 use Rattle.kb_store.proofs.ReadingLaws.{version_is_dir, on_ok, paths_of_met}
 use Rattle.kb_store.proofs.read.note_version.Goals as goal
 

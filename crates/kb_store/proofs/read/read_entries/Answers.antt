@@ -5,7 +5,7 @@ use Rattle.kb_world.specs.Path.{Path}
 use Rattle.kb_store.specs.Notes.{noted_all, notes_of, no_notes}
 use Rattle.kb_store.specs.Read.{paths_met, entries_over}
 use Rattle.kb_store.specs.declared.notes.Notes.{Notes}
-use Rattle.kb_store.specs.declared.walking.Met.{Met}
+use Rattle.kb_walk.specs.declared.walking.Met.{Met}
 use Rattle.kb_store.proofs.NotesOfLists.{noted_all_is}
 use Rattle.kb_store.proofs.ReadingLaws.{over_stands, noted_more}
 use Rattle.kb_store.proofs.read.read_entries.Goals as goal

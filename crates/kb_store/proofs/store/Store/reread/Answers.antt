@@ -6,7 +6,7 @@ use Rattle.kb_store.specs.Contents.{store_of}
 use Rattle.kb_store.specs.Notes.{noted_all, notes_of}
 use Rattle.kb_store.specs.Read.{paths_met}
 use Rattle.kb_store.specs.declared.notes.Notes.{Notes}
-use Rattle.kb_store.specs.declared.walking.Met.{Met}
+use Rattle.kb_walk.specs.declared.walking.Met.{Met}
 use Rattle.kb_store.proofs.PublicNotes.{hurt_public, store_public}
 use Rattle.kb_store.proofs.NotesOfLists.{noted_all_is}
 use Rattle.kb_store.proofs.ReadingLaws.{gives_read, looks_twice}

@@ -1,0 +1,4 @@
+pub mod Sparing
+pub mod Within
+pub mod Unseen
+pub mod Cases

@@ -1,0 +1,4 @@
+pub mod ChangeLaws
+pub mod ChangesLaws
+pub mod RunLaws
+pub mod StepsToLaws

@@ -1,0 +1,94 @@
+-- A child that may change nothing leaves a world at rest.
+use Rattle.std.proofs.Common.{◌≡◌, ◌⊎◌, false, true, List, [], ◌∷◌, ◌++◌, Option, Some, None, refl, sym, ap, ◌∙◌, subst, inl, inr}
+use Rattle.std.specs.Prelude.{Result, Ok, Err}
+use Rattle.std.proofs.lemmas.Bool.{true≢false}
+use Rattle.kb_world.specs.Path.{Path}
+use Rattle.kb_world.specs.Tree.{Tree}
+use Rattle.kb_world.specs.Area.{IsLeft}
+use Rattle.kb_world.specs.Public.{public_tree, foreign_tree}
+use Rattle.kb_world.specs.View.{is_own}
+use Rattle.kb_world.specs.Layout.{united}
+use Rattle.kb_world.specs.Script.{Script, answer, answer_in}
+use Rattle.kb_world.specs.Crash.{LeftOf, Adds}
+use Rattle.kb_world.specs.State.{State}
+use Rattle.kb_world.specs.Outcome.{Outcome, Action, ran_child, joined, asks}
+use Rattle.kb_world.specs.Does.{Asks, IsAsked}
+use Rattle.kb_world.specs.declared.child.Area.{Area}
+use Rattle.kb_world.specs.declared.child.Area.TheVariants as areas
+use Rattle.kb_world.specs.declared.child.Request.{Request}
+use Rattle.kb_world.specs.declared.child.Reply.{Reply}
+use Rattle.kb_world.specs.declared.roots.Roots.{Roots}
+use Rattle.kb_world.specs.declared.job.Report.{Report}
+use Rattle.kb_world.specs.declared.stop.Stop.{Stop}
+use Rattle.kb_world.specs.declared.stop.Stop.TheVariants.{Refused, Fault, NoMemory}
+use Rattle.kb_world.proofs.ThenLaws as low
+use Rattle.kb_world.proofs.LayoutLaws.{view-whole}
+use Rattle.kb_world.proofs.CrashLaws.{adds_then, adds_wider}
+use Rattle.kb_machine.specs.Opens.{IsReady, Opens, own_areas}
+use Rattle.kb_again.specs.Sparing.{IsSparing, AreSparing}
+use Rattle.kb_machine.specs.Stands.{Stands, Rests, OpensOneOf}
+use Rattle.kb_machine.specs.Across.{Survives, LeavesStanding, DoesAcrossCrashes}
+
+left_less : (soft : List Area) (tree : Option Tree) (image : Tree) → LeftOf (areas.Nothing ∷ soft) tree image → LeftOf soft tree image
+left_less soft None image left = left
+left_less soft (Some tree) image left = record { each = left.each; formed = left.formed }
+
+nothing_sparing : (roots : Roots) (own : List Area) → IsSparing roots own areas.Nothing
+nothing_sparing roots own = record { kept_out = λ path held. absurd (true≢false (sym held)); public = λ path held counted. absurd (true≢false (sym held)) }
+
+module _ (roots : Roots) (store : Tree) (old mid : State) (tree : mid.tree ≡ old.tree) (soft : (mid.history.soft ≡ old.history.soft) ⊎ (mid.history.soft ≡ areas.Nothing ∷ old.history.soft)) (script : mid.script ≡ old.script) where
+  same_left : (image : Tree) → LeftOf mid.history.soft mid.tree image → LeftOf old.history.soft old.tree image
+  same_left image left = subst (λ t. LeftOf old.history.soft t image) tree (elim soft [
+    | inl same ↦ subst (λ s. LeftOf s mid.tree image) same left
+    | inr given ↦ left_less old.history.soft mid.tree image (subst (λ s. LeftOf s mid.tree image) given left)
+  ])
+
+  pub still_stands : Stands roots store old → Stands roots store mid
+  still_stands stands = record {
+    opens = λ image left. subst (λ s. Opens roots s image store) (sym script) (stands.opens image (same_left image left));
+    spares = λ t told.
+        let was = stands.spares t (sym tree ∙ told) in (
+          was.0,
+          was.1,
+          subst (λ s. IsReady roots s t was.0 was.1) (sym script) was.2,
+          elim soft [
+            | inl same ↦ subst (AreSparing roots (own_areas was.1)) (sym same) was.3
+            | inr given ↦ subst (AreSparing roots (own_areas was.1)) (sym given) (nothing_sparing roots (own_areas was.1), was.3)
+          ],
+        );
+  }
+
+  pub still_rests : Rests roots store old → Rests roots store mid
+  still_rests rests = record { no_journal = λ image left. rests.no_journal image (same_left image left); stands = still_stands rests.stands }
+
+  pub still_opens : (stores : List Tree) → Stands roots store old → Adds (LeftOf (areas.Nothing ∷ old.history.soft) old.tree) old.history mid.history → Adds (OpensOneOf roots old.script (store ∷ stores)) old.history mid.history
+  still_opens stores stands adds = adds_wider (LeftOf (areas.Nothing ∷ old.history.soft) old.tree) (OpensOneOf roots old.script (store ∷ stores)) old.history mid.history
+      (λ image left. (store, inl refl, stands.opens image (left_less old.history.soft old.tree image left))) adds
+
+leaves_joined : (roots : Roots) (store : Tree) (request : Request) (foreign : Tree) (second : Outcome) (new : State) (result : Result (Unit {0}) Stop)
+    → LeavesStanding roots store second.after result new → LeavesStanding roots store (joined (ran_child request foreign) second).after result new
+leaves_joined roots store request foreign second new result leaves = leaves
+
+pub does_asks : (roots : Roots) (request : Request) (next : Reply → Action) (reply : Reply) (old mid new : State) (before after : Report) (result : Result (Unit {0}) Stop)
+    → ((q : Path) → is_own request.area q ≡ false)
+    → Asks request old mid (Ok reply) → DoesAcrossCrashes roots (next reply) mid new before after result
+    → DoesAcrossCrashes roots (asks roots old.script request next) old new before after result
+does_asks roots request next reply old mid new before after result none a b =
+    record {
+      does = low.does_asks roots request next reply old mid new before after result none a b.does;
+      survives = λ tree told rooted rests.
+          let store = public_tree roots tree in
+          let foreign = foreign_tree roots tree in
+          let is : IsAsked request old mid reply tree = a.asked tree told in
+          let said : reply ≡ (answer_in roots old.script request (united store foreign)).reply =
+          is.said ∙ ap (λ r. (answer_in r old.script request tree).reply) rooted
+          ∙ ap (λ view. (answer old.script request view).reply) (sym (view-whole roots request tree none)) in
+          let two : Survives roots store (next reply store foreign) mid new result = b.survives tree is.same (a.lasts.roots ∙ rooted) (still_rests roots store old mid a.tree a.soft a.lasts.script rests) in
+          let P : Reply → Type 0 = λ r. Survives roots store (joined (ran_child request foreign) (next r store foreign)) old new result in
+          subst P said (record {
+            each_moment = adds_then (OpensOneOf roots old.script (store ∷ (next reply store foreign).after)) old.history mid.history new.history
+                (still_opens roots store old mid a.tree a.soft a.lasts.script (next reply store foreign).after rests.stands a.moments)
+                (subst (λ script. Adds (OpensOneOf roots script (store ∷ (next reply store foreign).after)) mid.history new.history) a.lasts.script two.each_moment);
+            end = leaves_joined roots store request foreign (next reply store foreign) new result two.end;
+          });
+    }

@@ -1,0 +1,9 @@
+pub mod AsideLaws
+pub mod AsideThenLaws
+pub mod AsksLaws
+pub mod CommitLaws
+pub mod EachLaws
+pub mod GatherLaws
+pub mod RestLaws
+pub mod ThenLaws
+pub mod WorksLaws

@@ -1,0 +1,118 @@
+// The laws, each the contract of a function that does nothing.
+ghost use Rattle.std.specs.Prelude.{◌≡◌, ◌<◌, ◌+◌, [], ◌++◌, List, ℕ, length, drop, get_or, false, Ok, Err, Result, Some, Option};
+ghost use Rattle.kb_world.specs.Outcome.{Action, asks, print, ◌then◌};
+ghost use Rattle.kb_world.specs.Path.{Path};
+ghost use Rattle.kb_world.specs.Public.{intent_path, public_tree};
+ghost use Rattle.kb_world.specs.State.{State, HasCause, Lasts, Runs};
+ghost use Rattle.kb_world.specs.Tree.{Tree, node_at, IsFormed};
+ghost use Rattle.kb_world.specs.View.{is_own};
+ghost use Rattle.kb_world.specs.Does.{Asks};
+ghost use Rattle.kb_world.specs.declared.child.Reply.{Reply};
+ghost use Rattle.kb_world.specs.declared.child.Request.{Request};
+ghost use Rattle.kb_world.specs.declared.job.Report.{Report};
+ghost use Rattle.kb_world.specs.declared.job.Spot.{Spot};
+ghost use Rattle.kb_world.specs.declared.refusal.Refusal.{Refusal};
+ghost use Rattle.kb_world.specs.declared.roots.Roots.{Roots};
+ghost use Rattle.kb_world.specs.declared.stop.Stop.{Stop};
+ghost use Rattle.kb_world.specs.declared.stop.Stop.TheVariants.{Refused, Fault, NoMemory};
+ghost use Rattle.kb_world.specs.declared.world.WorldError.{WorldError};
+ghost use Rattle.kb_again.specs.Sparing.{AreSparing};
+ghost use Rattle.kb_machine.specs.Across.{DoesAcrossCrashes, SaysSo};
+ghost use Rattle.kb_machine.specs.Aside.{IsAsideArea, WorksAside};
+ghost use Rattle.kb_machine.specs.Commits.{Transacted, Commits};
+ghost use Rattle.kb_machine.specs.Each.{each, gathers, Leads};
+ghost use Rattle.kb_machine.specs.Stands.{Rests};
+ghost use Rattle.kb_machine.specs.Works.{Work, works, Works};
+
+/// A tree without a journal rests, with the store of its public tree, where no soft area reaches what is public.
+pub fn a_tree_without_a_journal_rests()
+    ensures { (roots : Roots) (state : State) (tree : Tree) → state.tree ≡ Some tree → node_at tree (intent_path roots) ≡ None
+        → AreSparing roots [] state.history.soft → Rests roots (public_tree roots tree) state }
+{}
+
+/// One action after another.
+pub fn actions_go_on()
+    ensures { (roots : Roots) (first second : Action) (old mid new : State) (before between after : Report) (result : Result (Unit {0}) Stop)
+        → DoesAcrossCrashes roots first {T = Unit {0}} old mid before between (Ok tt) → DoesAcrossCrashes roots second mid new between after result
+        → DoesAcrossCrashes roots (first then second) old new before after result }
+{}
+
+/// A child that may change nothing is asked, and then an action goes on.
+pub fn a_child_is_asked()
+    ensures { (roots : Roots) (request : Request) (next : Reply → Action) (reply : Reply) (old mid new : State) (before after : Report) (result : Result (Unit {0}) Stop)
+        → ((q : Path) → is_own request.area q ≡ false) → Asks request old mid (Ok reply) → DoesAcrossCrashes roots (next reply) mid new before after result
+        → DoesAcrossCrashes roots (asks roots old.script request next) old new before after result }
+{}
+
+/// What is done aside, and then more, is done aside; nothing is; and so is what a child does whose area lies aside, however
+/// it ends.
+pub fn work_aside_goes_on()
+    ensures nothing { (roots : Roots) (state : State) → WorksAside roots state state }
+    ensures more { (roots : Roots) (old mid new : State) → WorksAside roots old mid → WorksAside roots mid new → WorksAside roots old new }
+    ensures child { (roots : Roots) (request : Request) (old new : State) (result : Result Reply WorldError) → old.roots ≡ roots
+        → IsAsideArea roots request.area → Runs request old new result → WorksAside roots old new }
+{}
+
+/// Behind a part that was refused it goes on.
+pub fn a_refusal_is_gathered()
+    ensures { (roots : Roots) (part : Action) (next : Option Refusal → Action) (why : Refusal) (old mid new : State) (before between after : Report) (result : Result (Unit {0}) Stop)
+        → DoesAcrossCrashes roots part {T = Unit {0}} old mid before between (Err (Refused why)) → DoesAcrossCrashes roots (next (Some why)) mid new between after result
+        → DoesAcrossCrashes roots (gathers part next) old new before after result }
+{}
+
+/// An action behind work that was done aside, without a child, is that action.
+pub fn what_is_aside_is_no_action()
+    ensures { (roots : Roots) (action : Action) (old mid new : State) (before after : Report) (result aside : Result (Unit {0}) Stop) → aside ≡ Ok tt
+        → ((tree : Tree) → old.tree ≡ Some tree → IsFormed tree) → WorksAside roots old mid → mid.ran ≡ old.ran → Lasts old mid → HasCause Fault old mid aside
+        → DoesAcrossCrashes roots action mid new before after result → DoesAcrossCrashes roots action old new before after result }
+{}
+
+/// A transaction does the action that says so, and one that stopped is among its stores.
+pub fn an_action_is_one_transaction()
+    ensures done { (roots : Roots) (action : Action) (made : Tree → Transacted) (line : List ℕ) (texts : List Reply → List ℕ) (old new : State) (before after : Report) (replies : List Reply) (result : Result (Unit {0}) Stop)
+        → result ≡ Ok tt → ((tree : Tree) → old.tree ≡ Some tree → old.roots ≡ roots → SaysSo roots action made line texts tree)
+        → Commits roots made old new (Ok replies) → after.out ≡ before.out ++ line → after.err ≡ before.err ++ texts replies
+        → DoesAcrossCrashes roots action old new before after result }
+    ensures stopped { (roots : Roots) (action : Action) (made : Tree → Transacted) (line : List ℕ) (texts : List Reply → List ℕ) (old new : State) (before after : Report) (stop : Stop) (result : Result (Unit {0}) Stop)
+        → result ≡ Err stop → ((tree : Tree) → old.tree ≡ Some tree → old.roots ≡ roots → SaysSo roots action made line texts tree)
+        → Commits roots made old new (Err stop) → DoesAcrossCrashes roots action old new before after result }
+{}
+
+/// An action goes on from work that was done aside, and ends where that stopped.
+pub fn an_action_goes_on_from_work()
+    ensures goes_on { (roots : Roots) (work : Tree → Tree → Work Reply) (next : Reply → Action) (value : Reply) (old mid new : State) (before between after : Report) (right : Result Reply Stop) (result : Result (Unit {0}) Stop)
+        → right ≡ Ok value → ((tree : Tree) → old.tree ≡ Some tree → IsFormed tree) → Works roots work old mid before between right
+        → DoesAcrossCrashes roots (next value) mid new between after result → DoesAcrossCrashes roots (works work next) old new before after result }
+    ensures stops { (roots : Roots) (work : Tree → Tree → Work Reply) (next : Reply → Action) (old new : State) (before after : Report) (stop : Stop) (right : Result Reply Stop) (result : Result (Unit {0}) Stop)
+        → right ≡ Err stop → result ≡ Err stop → ((tree : Tree) → old.tree ≡ Some tree → IsFormed tree) → Works roots work old new before after right
+        → DoesAcrossCrashes roots (works work next) old new before after result }
+{}
+
+/// A first part that stopped stops the whole.
+pub fn a_part_that_stopped_stops_the_whole()
+    ensures { (roots : Roots) (first second : Action) (old new : State) (before after : Report) (stop : Stop) (result : Result (Unit {0}) Stop) → result ≡ Err stop
+        → DoesAcrossCrashes roots first old new before after result → DoesAcrossCrashes roots (first then second) old new before after result }
+{}
+
+/// A loop over items does the action of each: what is left leads to the whole, before it, behind an item, and behind all;
+/// an item that stopped stops it.
+pub fn each_item_is_done_in_turn()
+    ensures begins { (roots : Roots) (whole : Action) (state : State) (report : Report) → Leads roots whole whole state state report report }
+    ensures goes_on { (roots : Roots) (action : Spot → Action) (items : List Spot) (count : ℕ) (item : Spot) (old now next : State) (before between after : Report) (done : Result (Unit {0}) Stop)
+        → done ≡ Ok tt → count < length items → item ≡ get_or items count item → Leads roots (each action items) (each action (drop count items)) old now before between
+        → DoesAcrossCrashes roots (action item) now next between after done → Leads roots (each action items) (each action (drop (count + 1) items)) old next before after }
+    ensures stops { (roots : Roots) (action : Spot → Action) (items : List Spot) (count : ℕ) (item : Spot) (old now next : State) (before between after : Report) (stop : Stop) (result : Result (Unit {0}) Stop)
+        → result ≡ Err stop → count < length items → item ≡ get_or items count item → Leads roots (each action items) (each action (drop count items)) old now before between
+        → DoesAcrossCrashes roots (action item) now next between after result → DoesAcrossCrashes roots (each action items) old next before after result }
+    ensures ends { (roots : Roots) (action : Spot → Action) (items : List Spot) (count : ℕ) (old now : State) (before between : Report) (done : Result (Unit {0}) Stop)
+        → done ≡ Ok tt → drop count items ≡ [] → Leads roots (each action items) (each action (drop count items)) old now before between
+        → DoesAcrossCrashes roots (each action items) old now before between done }
+{}
+
+/// An action that prints, and one whose text found no memory, change nothing.
+pub fn a_text_is_printed()
+    ensures printed { (roots : Roots) (text : List ℕ) (state : State) (before after : Report) (done : Result (Unit {0}) Stop) → done ≡ Ok tt
+        → after.out ≡ before.out ++ text → after.err ≡ before.err → DoesAcrossCrashes roots (print text) state state before after done }
+    ensures wanting { (roots : Roots) (action : Action) (state : State) (before after : Report) (result : Result (Unit {0}) Stop) → result ≡ Err NoMemory
+        → DoesAcrossCrashes roots action state state before after result }
+{}

@@ -1,0 +1,3 @@
+pub mod PrivateLaws
+pub mod Walking
+pub mod Wipe
