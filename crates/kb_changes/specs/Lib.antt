@@ -1,4 +1,6 @@
 pub mod Change
+pub mod Changes
+pub mod Fit
 pub mod Groups
 pub mod Text
 pub mod Valid

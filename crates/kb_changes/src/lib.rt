@@ -5,6 +5,7 @@
 mod change;
 mod group;
 mod ordered;
+mod patch_laws;
 mod path_set;
 mod placed;
 mod roots;
@@ -12,5 +13,6 @@ mod runs;
 mod valid;
 
 pub use change::{Change, Intent, Recovered, RootName};
+pub use patch_laws::{a_patch_is_done, a_patch_is_valid, an_add_fits};
 pub use roots::staged_path;
 pub use valid::is_valid;

@@ -1,0 +1,281 @@
+-- What the laws of patches ask for is met.
+use Rattle.std.proofs.Common.{◌≡◌, ◌⊎◌, zero, suc, Bool, true, false, cond, ◌&&◌, ◌||◌, not, [], ◌∷◌, ◌++◌, length, drop, Option, Some, None, is_some, codes, refl, sym, ap, ◌∙◌, subst, inl, inr, arith, length-append, append_assoc}
+use Rattle.std.specs.List.{list_any}
+use Rattle.std.specs.Option.{option_or}
+use Rattle.std.specs.FinMap.{empty}
+use Rattle.std.specs.Cmp.{first_so}
+use Rattle.std.specs.Cmp.Derive.{both_true}
+use Rattle.kb_world.specs.Names.{is_word, is_version, begins_alphanumeric}
+use Rattle.kb_world.specs.Path.{Path, child, parent, is_under}
+use Rattle.kb_world.specs.Patch.{Patch, above, dirs_of, in_order, is_listed, left_at}
+use Rattle.kb_world.specs.Public.{IsAlwaysPublic, is_private, private_places, intent_path, staging_path}
+use Rattle.kb_world.specs.Roots.{AreApart, is_below, roots_under}
+use Rattle.kb_world.specs.Steps.{blocking, add_patch, add_blocked}
+use Rattle.kb_world.specs.Store.{is_key, module_path, version_path, link_path, source_text}
+use Rattle.kb_world.specs.StorePath.{key_of, store_path, is_in_scratch}
+use Rattle.kb_world.specs.Tree.{Tree, node_at, with_node, is_dir, is_leaf, IsFormed, sole}
+use Rattle.kb_world.specs.TreeLaws.{same_path, same_path-true, node_at-with_node, with_node-here, with_node-apart, node_at-empty}
+use Rattle.kb_world.specs.declared.job.Key.{Key}
+use Rattle.kb_world.specs.declared.roots.Roots.{Roots}
+use Rattle.kb_world.specs.declared.store_path.StorePath.TheVariants.{SourceLink}
+use Rattle.kb_world.specs.declared.tree.Node.{Node}
+use Rattle.kb_world.specs.declared.tree.Node.TheVariants as node
+use Rattle.kb_world.proofs.NameLaws.{known}
+use Rattle.kb_world.proofs.PathLaws.{elsewhere, by_test, under-append}
+use Rattle.kb_world.proofs.PublicLaws.{written_apart, in_dkms}
+use Rattle.kb_world.proofs.PublicPlaces.{public_place}
+use Rattle.kb_world.proofs.StorePathLaws.{link_no_scratch}
+use Rattle.kb_world.proofs.ListedLaws.{or_first, or_second, listed-reverse, listed-in_order}
+use Rattle.kb_world.proofs.AboveLaws.{above-dkms}
+use Rattle.kb_world.proofs.OrderLaws.{any-found}
+use Rattle.kb_changes.specs.Change.{staged_path}
+use Rattle.kb_changes.specs.Changes.{HasStaged, nodes_of}
+use Rattle.kb_changes.specs.Fit.{IsFit, MayStand}
+use Rattle.kb_changes.specs.Valid.{written_roots, new_intent_path, is_kept_out, is_initrd, is_initrd_name, is_changeable}
+use Rattle.kb_changes.specs.declared.change.RootName.TheVariants as root_name
+use Rattle.kb_changes.proofs.PatchParents.{either, below-append}
+use Rattle.kb_changes.proofs.PatchPuts.{open_no_private}
+
+untrue : false ≡ true → ⊥
+untrue e = cc
+
+-- ---- a public path below the dkms root is one that a change may speak of
+
+not_initrd : (roots : Roots) → AreApart roots → (q : Path) → is_under q roots.dkms ≡ true → is_initrd roots q ≡ false
+not_initrd roots apart q under = ap (λ b. is_initrd_name (cond b (sole (drop (length roots.boot) q)) None)) (elsewhere q roots.dkms roots.boot (written_apart roots apart).dkms_boot under)
+
+-- seven tests of which none holds, and the six that count
+six_of : (i n a b c d p : Bool) → (i || (n || (a || (b || (c || (d || (p || false))))))) ≡ false → ((i || (a || (b || (c || (d || false))))) ≡ false) × (n ≡ false)
+six_of i n a b c d p e =
+    let hi = or_first i _ e in
+    let e1 = or_second i _ e in
+    let e2 = or_second n _ e1 in
+    let e3 = or_second a _ e2 in
+    let e4 = or_second b _ e3 in
+    let e5 = or_second c _ e4 in (
+      (λ t. hi t || (or_first a _ e2 t || (or_first b _ e3 t || (or_first c _ e4 t || (or_first d _ e5 t || false))))),
+      or_first n _ e1,
+    )
+
+placed_below : (roots : Roots) → AreApart roots → (q : Path) → IsAlwaysPublic roots q → is_below q roots.dkms ≡ true → is_changeable roots q ≡ true
+placed_below roots apart q opens below =
+    let none : is_private roots q ≡ false = by_test (is_private roots q) (open_no_private roots q opens) in
+    let six = six_of (is_under q (intent_path roots)) (is_under q (new_intent_path roots)) (is_under q (staging_path roots.dkms)) (is_under q (staging_path roots.src)) (is_under q (staging_path roots.modules))
+    (is_under q (staging_path roots.boot)) (is_under q (child roots.boot (codes ".kb-plugins"))) (or_first (list_any (is_under q) (private_places roots)) (is_in_scratch (store_path roots q)) none) in
+    all (list_any (is_below q) (written_roots roots)) (is_kept_out roots q) (is_under q (new_intent_path roots)) (is_initrd roots q)
+    (ap (λ b. b || list_any (is_below q) (roots.src ∷ roots.modules ∷ roots.boot ∷ [])) below) six.0 six.1 (not_initrd roots apart q (first_so (is_under q roots.dkms) _ below))
+  where
+    all : (a b c d : Bool) → a ≡ true → b ≡ false → c ≡ false → d ≡ false → (a && not b && not c && not d) ≡ true
+    all a b c d p q r s = λ i. p i && not (q i) && not (r i) && not (s i)
+
+-- ---- Add
+
+module _ (roots : Roots) (apart : AreApart roots) (key : Key) (named : is_key key ≡ true) where
+  abbrev patch : Patch
+  patch = add_patch roots key
+
+  link_open : IsAlwaysPublic roots (link_path roots key)
+  link_open = public_place roots apart (SourceLink key) named refl
+
+  link_below : is_below (link_path roots key) roots.dkms ≡ true
+  link_below = below-append roots.dkms key.module (key.version ∷ codes "source" ∷ [])
+
+  -- the two directories that are made
+  made : (q : Path) → is_listed q (dirs_of roots patch) ≡ true → (q ≡ module_path roots key) ⊎ (q ≡ version_path roots key)
+  made q listed = by (either (same_path q (module_path roots key)) _ (ap (λ paths. is_listed q ((paths ++ []) ++ [])) (sym above_link) ∙ sym (listed-in_order q ((above roots (link_path roots key) ++ []) ++ [])) ∙ listed))
+    where
+      above_link : above roots (link_path roots key) ≡ module_path roots key ∷ version_path roots key ∷ []
+      above_link =
+          above-dkms roots (key.module ∷ key.version ∷ codes "source" ∷ [])
+          ∙ ap (λ p. module_path roots key ∷ p ∷ []) (append_assoc roots.dkms (key.module ∷ []) (key.version ∷ []))
+
+      by : (same_path q (module_path roots key) ≡ true) ⊎ (is_listed q (version_path roots key ∷ []) ≡ true) → (q ≡ module_path roots key) ⊎ (q ≡ version_path roots key)
+      by (inl s) = inl (same_path-true q (module_path roots key) s)
+      by (inr more) = inr (same_path-true q (version_path roots key) (elim (either (same_path q (version_path roots key)) false more) [ inl s ↦ s | inr none ↦ absurd (untrue none) ]))
+
+  made_under : (q : Path) → is_listed q (dirs_of roots patch) ≡ true → is_under q roots.dkms ≡ true
+  made_under q listed = elim (made q listed) [
+    | inl is ↦ ap (λ p. is_under p roots.dkms) is ∙ under-append roots.dkms (key.module ∷ [])
+    | inr is ↦ ap (λ p. is_under p roots.dkms) is ∙ under-append roots.dkms (key.module ∷ key.version ∷ [])
+  ]
+
+  plain : begins_alphanumeric key.module ≡ true
+  plain = (known key.module (first_so (is_word key.module) (is_version key.version) named)).begins
+
+  made_open : (q : Path) → is_listed q (dirs_of roots patch) ≡ true → IsAlwaysPublic roots q
+  made_open q listed = elim (made q listed) [
+    | inl is ↦ subst (IsAlwaysPublic roots) (sym is) (in_dkms roots apart (key.module ∷ []) plain refl)
+    | inr is ↦ subst (IsAlwaysPublic roots) (sym is) (in_dkms roots apart (key.module ∷ key.version ∷ []) plain (link_no_scratch key.module key.version))
+  ]
+
+  pub add_stands : MayStand roots (add_patch roots key)
+  add_stands = record {
+    drops = tt;
+    wipes = tt;
+    comes = (record { opens = link_open; placed = placed_below roots apart (link_path roots key) link_open link_below }, tt);
+    dirs = by_test (list_any (is_initrd roots) (dirs_of roots patch)) (λ e.
+        let found = any-found (is_initrd roots) (dirs_of roots patch) e in
+        untrue (sym (not_initrd roots apart found.0 (made_under found.0 found.2)) ∙ found.1));
+    unwiped = refl;
+    differ = refl;
+    kept = both_true (ap not (listed-reverse (link_path roots key) (in_order []) ∙ listed-in_order (link_path roots key) [])) refl;
+    counted = omega arith;
+  }
+
+  pub add_fits : (tree : Tree) → IsFormed tree → is_dir (node_at tree roots.dkms) ≡ true → add_blocked roots key tree ≡ None → is_dir (node_at tree (link_path roots key)) ≡ false → IsFit roots (add_patch roots key) tree
+  add_fits tree formed dkms free no_dir = record {
+    formed = formed;
+    drops = tt;
+    wipes = tt;
+    dirs = λ q listed. record { opens = made_open q listed; free = no_leaf q (made q listed) };
+    puts = (record { opens = link_open; leaf = refl; free = no_dir; no_dir = by_test (is_listed (link_path roots key) (dirs_of roots patch)) (λ listed. longer (made (link_path roots key) listed)) }, tt);
+    rooted = (ap (λ b. b || list_any (λ root. is_below (link_path roots key) root && is_dir (node_at tree root)) (roots.src ∷ roots.modules ∷ roots.boot ∷ [])) (both_true link_below dkms), tt);
+    counted = omega arith;
+  }
+    where
+      longer : (link_path roots key ≡ module_path roots key) ⊎ (link_path roots key ≡ version_path roots key) → ⊥
+      longer (inl e) = absurd (omega (arith, ap length e, length-append roots.dkms (key.module ∷ []), length-append roots.dkms (key.module ∷ key.version ∷ codes "source" ∷ [])))
+      longer (inr e) = absurd (omega (arith, ap length e, length-append roots.dkms (key.module ∷ key.version ∷ []), length-append roots.dkms (key.module ∷ key.version ∷ codes "source" ∷ [])))
+
+      leafless : (path : Path) (at : Option Node) → cond (is_some at) (cond (is_dir at) None (Some path)) None ≡ None → is_leaf at ≡ false
+      leafless path None e = refl
+      leafless path (Some node.Dir) e = refl
+      leafless path (Some (node.File bytes exec)) e = let impossible : Some path ≡ None = e in absurd (cc)
+      leafless path (Some (node.Link text)) e = let impossible : Some path ≡ None = e in absurd (cc)
+
+      first_none : (a b : Option Path) → option_or a b ≡ None → (a ≡ None) × (b ≡ None)
+      first_none None b e = (refl, e)
+      first_none (Some x) b e = let impossible : Some x ≡ None = e in absurd (cc)
+
+      both : (blocking (module_path roots key) tree ≡ None) × (blocking (version_path roots key) tree ≡ None)
+      both = first_none (blocking (module_path roots key) tree) (blocking (version_path roots key) tree) free
+
+      no_leaf : (q : Path) → (q ≡ module_path roots key) ⊎ (q ≡ version_path roots key) → is_leaf (left_at patch tree q) ≡ false
+      no_leaf q (inl is) = ap (λ p. is_leaf (node_at tree p)) is ∙ leafless (module_path roots key) (node_at tree (module_path roots key)) both.0
+      no_leaf q (inr is) = ap (λ p. is_leaf (node_at tree p)) is ∙ leafless (version_path roots key) (node_at tree (version_path roots key)) both.1
+
+-- ---- a tree that it fits
+
+formed_dir : (tree : Tree) (path : Path) → IsFormed tree → is_dir (node_at tree (parent path)) ≡ true → IsFormed (with_node path node.Dir tree)
+formed_dir tree path formed stands q some = still (parent q) (by (same_path q path) refl)
+  where
+    still : (p : Path) → is_dir (node_at tree p) ≡ true → is_dir (node_at (with_node path node.Dir tree) p) ≡ true
+    still p d = ap is_dir (node_at-with_node tree path node.Dir p) ∙ either_dir (same_path p path)
+      where
+        either_dir : (b : Bool) → is_dir (cond b (Some node.Dir) (node_at tree p)) ≡ true
+        either_dir true = refl
+        either_dir false = d
+
+    by : (b : Bool) → same_path q path ≡ b → is_dir (node_at tree (parent q)) ≡ true
+    by true s = ap (λ p. is_dir (node_at tree (parent p))) (same_path-true q path s) ∙ stands
+    by false s = formed q (sym (ap is_some (node_at-with_node tree path node.Dir q ∙ ap (λ b. cond b (Some node.Dir) (node_at tree q)) s)) ∙ some)
+
+formed_leaf : (tree : Tree) (path : Path) (at : Node) → IsFormed tree → is_dir (node_at tree (parent path)) ≡ true → is_dir (node_at tree path) ≡ false → IsFormed (with_node path at tree)
+formed_leaf tree path at formed stands none q some = still (parent q) (by (same_path q path) refl)
+  where
+    still : (p : Path) → is_dir (node_at tree p) ≡ true → is_dir (node_at (with_node path at tree) p) ≡ true
+    still p d = ap is_dir (with_node-apart tree path at p (λ e. untrue (sym none ∙ ap (λ x. is_dir (node_at tree x)) (sym e) ∙ d))) ∙ d
+
+    by : (b : Bool) → same_path q path ≡ b → is_dir (node_at tree (parent q)) ≡ true
+    by true s = ap (λ p. is_dir (node_at tree (parent p))) (same_path-true q path s) ∙ stands
+    by false s = formed q (sym (ap is_some (node_at-with_node tree path at q ∙ ap (λ b. cond b (Some at) (node_at tree q)) s)) ∙ some)
+
+abbrev sample_roots : Roots
+sample_roots = roots_under []
+
+abbrev sample_key : Key
+sample_key = key_of (codes "hello") (codes "1.0")
+
+abbrev var : Path
+var = codes "var" ∷ []
+
+abbrev lib : Path
+lib = codes "var" ∷ codes "lib" ∷ []
+
+abbrev staged_link : Node
+staged_link = node.Link (source_text sample_roots sample_key)
+
+abbrev t0 : Tree
+t0 = with_node [] node.Dir empty
+
+abbrev t1 : Tree
+t1 = with_node var node.Dir t0
+
+abbrev t2 : Tree
+t2 = with_node lib node.Dir t1
+
+abbrev t3 : Tree
+t3 = with_node sample_roots.dkms node.Dir t2
+
+abbrev t4 : Tree
+t4 = with_node (staging_path sample_roots.dkms) node.Dir t3
+
+abbrev sample : Tree
+sample = with_node (staged_path sample_roots root_name.Dkms 0) staged_link t4
+
+formed_root : IsFormed t0
+formed_root q some = by (same_path q []) refl
+  where
+    by : (b : Bool) → same_path q [] ≡ b → is_dir (node_at t0 (parent q)) ≡ true
+    by true s = ap (λ p. is_dir (node_at t0 (parent p))) (same_path-true q [] s) ∙ ap is_dir (with_node-here empty [] node.Dir)
+    by false s = absurd (untrue (sym (ap is_some (node_at-with_node empty [] node.Dir q ∙ ap (λ b. cond b (Some node.Dir) (node_at empty q)) s ∙ node_at-empty q)) ∙ some))
+
+formed_four : IsFormed t4
+formed_four =
+    formed_dir t3 (staging_path sample_roots.dkms) (formed_dir t2 sample_roots.dkms (formed_dir t1 lib (formed_dir t0 var formed_root (ap is_dir (with_node-here empty [] node.Dir))) (ap is_dir (with_node-here t0 var node.Dir)))
+    (ap is_dir (with_node-here t1 lib node.Dir))) (ap is_dir (with_node-here t2 sample_roots.dkms node.Dir))
+
+-- what stands at a path that is none of these
+four_at : (q : Path) → node_at t4 q ≡ cond (same_path q (staging_path sample_roots.dkms)) (Some node.Dir) (cond (same_path q sample_roots.dkms) (Some node.Dir)
+    (cond (same_path q lib) (Some node.Dir) (cond (same_path q var) (Some node.Dir) (cond (same_path q []) (Some node.Dir) None))))
+four_at q =
+    node_at-with_node t3 (staging_path sample_roots.dkms) node.Dir q
+    ∙ ap (cond (same_path q (staging_path sample_roots.dkms)) (Some node.Dir)) (node_at-with_node t2 sample_roots.dkms node.Dir q
+    ∙ ap (cond (same_path q sample_roots.dkms) (Some node.Dir)) (node_at-with_node t1 lib node.Dir q
+    ∙ ap (cond (same_path q lib) (Some node.Dir)) (node_at-with_node t0 var node.Dir q
+    ∙ ap (cond (same_path q var) (Some node.Dir)) (node_at-with_node empty [] node.Dir q ∙ ap (cond (same_path q []) (Some node.Dir)) (node_at-empty q)))))
+
+sample_at : (q : Path) → node_at sample q ≡ cond (same_path q (staged_path sample_roots root_name.Dkms 0)) (Some staged_link) (node_at t4 q)
+sample_at q = node_at-with_node t4 (staged_path sample_roots root_name.Dkms 0) staged_link q
+
+sample_formed : IsFormed sample
+sample_formed = formed_leaf t4 (staged_path sample_roots root_name.Dkms 0) staged_link formed_four (ap is_dir (with_node-here t3 (staging_path sample_roots.dkms) node.Dir)) (ap is_dir (four_at (staged_path sample_roots root_name.Dkms 0)))
+
+sample_apart : AreApart sample_roots
+sample_apart = refl
+
+module_free : node_at sample (module_path sample_roots sample_key) ≡ None
+module_free = sample_at (module_path sample_roots sample_key) ∙ four_at (module_path sample_roots sample_key)
+
+version_free : node_at sample (version_path sample_roots sample_key) ≡ None
+version_free = sample_at (version_path sample_roots sample_key) ∙ four_at (version_path sample_roots sample_key)
+
+link_free : node_at sample (link_path sample_roots sample_key) ≡ None
+link_free = sample_at (link_path sample_roots sample_key) ∙ four_at (link_path sample_roots sample_key)
+
+unblocked : add_blocked sample_roots sample_key sample ≡ None
+unblocked =
+    ap (λ at. option_or (cond (is_some at) (cond (is_dir at) None (Some (module_path sample_roots sample_key))) None) (blocking (version_path sample_roots sample_key) sample)) module_free
+    ∙ ap (λ at. cond (is_some at) (cond (is_dir at) None (Some (version_path sample_roots sample_key))) None) version_free
+
+no_node : (node : Node) → None ≡ Some node → ⊥
+no_node node e = cc
+
+sample_staged : HasStaged sample_roots (nodes_of sample_roots (add_patch sample_roots sample_key)) sample
+sample_staged root_name.Dkms zero at e = with_node-here t4 (staged_path sample_roots root_name.Dkms 0) staged_link ∙ e
+sample_staged root_name.Dkms (suc n) at e = absurd (no_node at e)
+sample_staged root_name.Src n at e = absurd (no_node at e)
+sample_staged root_name.Modules n at e = absurd (no_node at e)
+sample_staged root_name.Boot n at e = absurd (no_node at e)
+
+pub met : (roots : Roots) × (patch : Patch) × (tree : Tree) × AreApart roots × IsFit roots patch tree × HasStaged roots (nodes_of roots patch) tree × MayStand roots patch
+met = (
+  sample_roots,
+  add_patch sample_roots sample_key,
+  sample,
+  sample_apart,
+  add_fits sample_roots sample_apart sample_key refl sample sample_formed
+      (ap is_dir (sample_at sample_roots.dkms ∙ four_at sample_roots.dkms)) unblocked (ap is_dir link_free),
+  sample_staged,
+  add_stands sample_roots sample_apart sample_key refl,
+)
