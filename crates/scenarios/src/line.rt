@@ -37,6 +37,7 @@ pub enum Action {
     Zeros { path: Path, count: u64 },
     Fill { path: Path, count: u64 },
     Remove(Path),
+    Wipe(Path),
     Fail { target: Target, calls: Vec<u64> },
     Run(Texts),
     Halt(Halted),
@@ -225,6 +226,7 @@ fn read_run(alloc: Global, word: &str, rest: Option<&str>) -> Result<Option<Line
             }))
         }
         "run" => act_line(Action::Run(words(alloc, rest)?)),
+        "wipe" => act_line(Action::Wipe(last_path(alloc, rest)?)),
         "halt" => read_halt(alloc, rest),
         "fail" => read_fail(alloc, Target::World, rest),
         "fail-out" => read_fail(alloc, Target::Out, rest),

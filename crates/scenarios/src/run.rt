@@ -1,10 +1,12 @@
 // A run of the program's call, and what it prints.
 
+use crate::error::LineError;
 use crate::line::{Halted, Target};
 use crate::text::{Page, Place};
 use kb_memory::{MemorySink, MemoryWorld};
 use kb_top::{Setting, start};
-use kb_world::{Roots, Texts};
+use kb_walk::wipe;
+use kb_world::{Path, Roots, Texts, WorldError};
 use std::alloc::{AllocError, Global};
 use std::mem;
 
@@ -102,6 +104,24 @@ pub fn run(
     let end = start(alloc, words.as_slice(), setting, world, &mut out, &mut err);
     world.fail_at(Vec::new(alloc));
     print_run(alloc, page, words, out.bytes(), err.bytes(), end.code())
+}
+
+/// Wipes the path in a world in which no call is to fail behind it, and says whether that was done.
+pub fn wipe_path(
+    alloc: Global,
+    world: &mut MemoryWorld,
+    path: &Path,
+    failures: Failures,
+    page: &mut Page,
+) -> Result<(), LineError> {
+    world.fail_at(failures.world);
+    let end = wipe(alloc, world, path);
+    world.fail_at(Vec::new(alloc));
+    match end {
+        Ok(()) => Ok(page.plain("wiped\n")?),
+        Err(WorldError::Failed) => Ok(page.plain("failed\n")?),
+        Err(WorldError::NoMemory) => Err(LineError::Memory(AllocError)),
+    }
 }
 
 // Puts what a crash leaves by the choice in place of the world.

@@ -8,7 +8,7 @@ use crate::edit::{fill, place, place_zeros, remove};
 use crate::error::{BadLine, LineError};
 use crate::facts::print_facts;
 use crate::line::{Action, Show};
-use crate::run::{Failures, halt, run};
+use crate::run::{Failures, halt, run, wipe_path};
 use crate::scene::{Scene, Step, usual_setting};
 use crate::show::{print_index, print_requests, print_tree};
 use crate::store::{print_claimant, print_store};
@@ -106,6 +106,10 @@ fn act(
         Action::Run(words) => {
             let failures = mem::replace(&mut progress.failures, Failures::none(alloc));
             Ok(run(alloc, world, setting, &words, failures, page)?)
+        }
+        Action::Wipe(path) => {
+            let failures = mem::replace(&mut progress.failures, Failures::none(alloc));
+            wipe_path(alloc, world, &path, failures, page)
         }
         Action::Halt(halted) => {
             progress.failures = Failures::none(alloc);
