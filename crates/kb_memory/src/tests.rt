@@ -11,6 +11,7 @@ use kb_world::{
     Area, Bytes, Effect, EffectRow, Node, Path, Request, Roots, Sequence, Text, Texts, World,
 };
 use std::alloc::{AllocError, Global};
+use std::mem;
 use std::process::Abort;
 use std::test::Fail;
 
@@ -175,39 +176,51 @@ fn works(rt: &impl Abort, alloc: Global, world: &mut MemoryWorld, roots: &Roots)
     assert!(rt; make_dir(alloc, world, "/boot")?);
     assert!(rt; put(alloc, world, "/boot/a", b"old")?);
     assert!(rt; rename(alloc, world, roots, "/boot/a", "/boot/b")?);
-    assert!(rt; make(alloc, world)? == Some(0));
     Ok(())
 }
 
-// What is left of the work by a crash with this choice.
-fn crash(rt: &impl Abort, alloc: Global, choice: u64) -> Result<MemoryWorld, Fail> {
+// Puts what a crash leaves by the choice in place of the world.
+fn lose(alloc: Global, world: &mut MemoryWorld, choice: u64) -> Result<(), Fail> {
     let roots = Roots::under(alloc, &Path::root(alloc))?;
-    let mut world = empty_world(alloc, roots.clone()?)?;
-    works(rt, alloc, &mut world, &roots)?;
-    Ok(world.lose(alloc, choice)?)
+    let none = MemoryWorld::new(alloc, roots, Vec::new(alloc));
+    *world = mem::replace(world, none).lose(alloc, choice)?;
+    Ok(())
 }
 
+// Runs `make`, and tells whether a crash with this choice leaves that of its files, and what else was done.
 fn leaves(
-    rt: &impl Abort,
     alloc: Global,
+    world: &mut MemoryWorld,
     choice: u64,
     one: Option<&[u8]>,
     two: Option<&[u8]>,
-) -> Result<(), Fail> {
-    let world = crash(rt, alloc, choice)?;
-    assert!(rt; holds(alloc, &world, "/boot/a", None)?);
-    assert!(rt; holds(alloc, &world, "/boot/b", Some(b"old"))?);
-    assert!(rt; holds(alloc, &world, "/boot/one", one)?);
-    assert!(rt; holds(alloc, &world, "/boot/two", two)?);
+) -> Result<bool, Fail> {
+    if make(alloc, world)? != Some(0) {
+        return Ok(false);
+    }
+    lose(alloc, world, choice)?;
+    Ok(
+        holds(alloc, world, "/boot/a", None)?
+            && holds(alloc, world, "/boot/b", Some(b"old"))?
+            && holds(alloc, world, "/boot/one", one)?
+            && holds(alloc, world, "/boot/two", two)?,
+    )
+}
+
+fn crashes(rt: &impl Abort, alloc: Global, world: &mut MemoryWorld) -> Result<(), Fail> {
+    assert!(rt; leaves(alloc, world, 0, Some(b"1"), Some(b"2"))?);
+    assert!(rt; leaves(alloc, world, 1 << 32, None, Some(b"2"))?);
+    assert!(rt; leaves(alloc, world, (1 << 32) + 2, Some(b"1"), None)?);
+    assert!(rt; leaves(alloc, world, 3 << 32, Some(b"2"), Some(b"2"))?);
     Ok(())
 }
 
 #[test]
 fn a_crash_loses_what_is_soft(rt: HostRuntime) -> Result<(), Fail> {
-    leaves(&rt, rt.alloc(), 0, Some(b"1"), Some(b"2"))?;
-    leaves(&rt, rt.alloc(), 1 << 32, None, Some(b"2"))?;
-    leaves(&rt, rt.alloc(), (1 << 32) + 2, Some(b"1"), None)?;
-    leaves(&rt, rt.alloc(), 3 << 32, Some(b"2"), Some(b"2"))
+    let roots = Roots::under(rt.alloc(), &Path::root(rt.alloc()))?;
+    let mut world = empty_world(rt.alloc(), roots.clone()?)?;
+    works(&rt, rt.alloc(), &mut world, &roots)?;
+    crashes(&rt, rt.alloc(), &mut world)
 }
 
 fn halts(rt: &impl Abort, alloc: Global, world: &mut MemoryWorld) -> Result<(), Fail> {
