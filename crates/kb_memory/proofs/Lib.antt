@@ -1,7 +1,7 @@
+pub mod CallLaws
+pub mod EffectsLaws
+pub mod LostLaws
+pub mod PlanLaws
+pub mod PutLaws
 pub mod RunLaws
 pub mod ScriptLaws
-pub mod MoveLaws
-pub mod ListLaws
-pub mod EditLaws
-pub mod NodeLaws
-pub mod PlanLaws

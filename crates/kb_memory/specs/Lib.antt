@@ -1,6 +1,6 @@
 pub mod Begun
-pub mod Coded
-pub mod Edits
+pub mod Calls
+pub mod Lost
 pub mod Plan
 pub mod Sink
 pub mod World

@@ -1,5 +1,5 @@
 // Calls that are to fail, and how many have.
-ghost use Rattle.std.specs.Prelude.{◌≡◌, ◌≤◌, [], IsTrue};
+ghost use Rattle.std.specs.Prelude.{◌≡◌, ◌≤◌, [], true};
 ghost use Rattle.kb_memory.specs.Plan.{is_due, after_call, risen};
 
 use std::alloc::Global;
@@ -43,9 +43,18 @@ impl Failures {
         let fails = self.due.contains(&1);
         count_down(&mut self.due);
         if fails {
-            self.faults = self.faults.saturating_add(1);
+            self.rise();
         }
         fails
+    }
+
+    /// Something has failed that isn't among those calls.
+    pub fn rise(&mut self)
+        ensures due { self.new.due.items ≡ self.old.due.items }
+        ensures faults { self.new.faults ≡ risen true self.old.faults }
+        ensures later { self.old.faults ≤ self.new.faults }
+    {
+        self.faults = self.faults.saturating_add(1);
     }
 }
 

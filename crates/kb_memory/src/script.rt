@@ -6,9 +6,10 @@ ghost use Rattle.kb_world.specs.Path.{is_under};
 ghost use Rattle.kb_world.specs.Tree.{node_at, is_dir, is_file};
 ghost use Rattle.kb_world.specs.View as view;
 ghost use Rattle.kb_world.specs.Script as script;
-ghost use Rattle.kb_memory.specs.Begun.{IsBegun};
+ghost use Rattle.kb_disk.specs.Stored.{stored_of, with_effects};
+ghost use Rattle.kb_memory.specs.Begun.{IsBegun, edits_in};
 
-use crate::nodes::Nodes;
+use kb_disk::{Disk, Nodes};
 use kb_world::{
     Area, Bytes, Edit, Effect, EffectRow, Node, Path, Reply, Request, Roots, is_index, is_private,
 };
@@ -178,22 +179,23 @@ fn edits_of(
     }
 }
 
-/// Does what the rows say of the request, and answers its reply. An error leaves some of its first effects done.
+/// Does what the rows say of the request, whose area the child was given, and answers its reply. An error leaves some of
+/// its first effects done.
 #[tactic(auto, unfolding(kb_world::specs::Script::tree_after))]
 pub fn perform(
     alloc: Global,
-    nodes: &mut Nodes,
+    disk: &mut Disk,
     roots: &Roots,
     rows: &[EffectRow],
     request: &Request,
 ) -> Result<Reply, AllocError>
-    ensures reply { IfOk result (λ reply. reply ≡ (script.answer_in roots.now rows.now request.now nodes.old).reply) }
-    ensures done { OnOk result (nodes.new ≡ script.tree_after roots.now rows.now request.now nodes.old) }
-    ensures cut_off { OnErr result (IsBegun roots.now rows.now request.now nodes.old nodes.new) }
+    ensures reply { IfOk result (λ reply. reply ≡ (script.answer_in roots.now rows.now request.now (stored_of disk.old).tree).reply) }
+    ensures done { OnOk result (stored_of disk.new ≡ with_effects request.now.area (stored_of disk.old) (edits_in roots.now rows.now request.now (stored_of disk.old).tree)) }
+    ensures cut_off { OnErr result (IsBegun roots.now rows.now request.now (stored_of disk.old) (stored_of disk.new)) }
 {
-    let row = find_row(rows, nodes, roots, request);
+    let row = find_row(rows, disk.nodes(), roots, request);
     let reply = reply_of(alloc, row)?;
-    let edits = edits_of(alloc, nodes, roots, request, row)?;
-    nodes.edit_all(&request.area, edits)?;
+    let edits = edits_of(alloc, disk.nodes(), roots, request, row)?;
+    disk.edit_all(alloc, &request.area, edits)?;
     Ok(reply)
 }

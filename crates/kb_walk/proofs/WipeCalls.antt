@@ -1,12 +1,12 @@
 -- What the calls that take a path away do, put together.
-use Rattle.std.proofs.Common.{◌≡◌, ◌⊎◌, ℕ, ◌≤◌, true, false, List, [], ◌∷◌, Option, Some, None, is_some, Result, Ok, Err, map, drop, refl, sym, ap, ◌∙◌, subst, inl, inr, arith}
+use Rattle.std.proofs.Common.{◌≡◌, ◌⊎◌, ℕ, true, false, List, [], ◌∷◌, Option, Some, None, Result, Ok, Err, map, drop, refl, sym, ap, ◌∙◌, subst, inl, inr}
 use Rattle.std.specs.Prelude.{option_map, filter, IsErrOf, IsTrue, OnOk}
 use Rattle.std.specs.Option.{ForSome}
-use Rattle.kb_world.specs.Path.{Path, is_under}
+use Rattle.kb_world.specs.Path.{Path}
 use Rattle.kb_world.specs.Tree.{Tree, node_at, without, kind_of, is_dir, is_leaf, IsFormed, IsEmptyDir}
 use Rattle.kb_world.specs.Area.{IsLeft}
 use Rattle.kb_world.specs.Crash.{LeftOf, History, Adds}
-use Rattle.kb_world.specs.State.{State, Changes, Looks, Unchanged, HasCause, RanNone}
+use Rattle.kb_world.specs.State.{State, Changes, Looks, Unchanged, HasCause}
 use Rattle.kb_world.specs.declared.child.Area.{Area}
 use Rattle.kb_world.specs.declared.tree.Node.{Node}
 use Rattle.kb_world.specs.declared.tree.Node.TheVariants as nodes
@@ -18,7 +18,7 @@ use Rattle.kb_world.proofs.CrashLaws.{adds_then, adds_wider, adds_none, turns_ad
 use Rattle.kb_world.proofs.DoesLaws.{cause_then, ran_none_then}
 use Rattle.kb_walk.specs.Walking.{entries, paths_below, met_at}
 use Rattle.kb_walk.specs.declared.walking.Met.{Met}
-use Rattle.kb_walk.specs.Wipe.{IsWipedInPart, LeftOfWipe, IsPartlyWiped, TakesAway, Wipes, without_all, without_tree, emptied}
+use Rattle.kb_walk.specs.Wipe.{IsWipedInPart, LeftOfWipe, TakesAway, Wipes, without_all, without_tree, emptied}
 use Rattle.kb_walk.proofs.WipeLaws.{part_wiped, all_emptied, emptied_then_gone, bare_gone, nothing_gone, unwiped, whole_wiped, emptied_dir}
 use Rattle.kb_walk.proofs.WipeLoop.{HasWiped, HasStopped, LeftWiped, path_of, paths_of_met, told_from, absent_stands}
 

@@ -1,10 +1,10 @@
 -- Entries are taken away one by one, from the last on.
-use Rattle.std.proofs.Common.{◌≡◌, ◌⊎◌, ℕ, ◌+◌, ◌-◌, ◌<◌, ◌≤◌, List, [], ◌∷◌, ◌++◌, length, take, drop, map, get_or, Option, Some, None, Result, Ok, Err, refl, sym, ap, ◌∙◌, subst, inl, inr, arith}
+use Rattle.std.proofs.Common.{◌≡◌, ◌⊎◌, ℕ, ◌+◌, ◌-◌, ◌<◌, ◌≤◌, List, [], ◌∷◌, ◌++◌, length, take, drop, map, get_or, Option, Some, None, Ok, Err, refl, sym, ap, ◌∙◌, subst, inl, inr, arith}
 use Rattle.std.specs.Prelude.{option_map, IsTrue}
 use Rattle.std.specs.Option.{ForSome}
 use Rattle.std.proofs.lemmas.List.{get_or-map, length-map, take-append-drop, at_drop_more, drop_all}
 use Rattle.kb_world.specs.Path.{Path}
-use Rattle.kb_world.specs.Tree.{Tree, node_at, without, kind_of}
+use Rattle.kb_world.specs.Tree.{Tree, without, kind_of}
 use Rattle.kb_world.specs.Area.{IsLeft}
 use Rattle.kb_world.specs.Crash.{LeftOf, Adds}
 use Rattle.kb_world.specs.State.{State, Changes, HasCause, RanNone}

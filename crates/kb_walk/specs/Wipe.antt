@@ -1,5 +1,5 @@
 -- A path is taken away with all that is below it, the last entry first. This project's own.
-use Rattle.std.specs.Prelude.{◌≡◌, ◌≢◌, ◌⊎◌, ℕ, Bool, true, not, List, [], Option, Some, None, Result, drop, option_map, OnOk}
+use Rattle.std.specs.Prelude.{◌≡◌, ◌≢◌, ◌⊎◌, true, not, List, [], Option, Some, None, Result, option_map, OnOk}
 use Rattle.std.specs.List.{list_any}
 use Rattle.std.specs.Option.{ForSome}
 use Rattle.std.specs.FinMap.{retain_keys}

@@ -39,8 +39,17 @@ pub enum Action {
     Remove(Path),
     Fail { target: Target, calls: Vec<u64> },
     Run(Texts),
+    Halt(Halted),
     Show(Show),
     Ask(Ask),
+}
+
+/// A run that is halted: how many calls of the world pass, what is chosen, and the run's words.
+#[derive(Drop)]
+pub struct Halted {
+    pub after: u64,
+    pub choice: u64,
+    pub words: Texts,
 }
 
 /// Whose calls are to fail.
@@ -195,6 +204,16 @@ fn read_fail(alloc: Global, target: Target, rest: Option<&str>) -> Result<Option
     })
 }
 
+fn read_halt(alloc: Global, rest: Option<&str>) -> Result<Option<Line>, LineError> {
+    let (after, rest) = split_field(rest)?;
+    let (choice, rest) = split_word(rest);
+    act_line(Action::Halt(Halted {
+        after: number(after)?,
+        choice: number(choice)?,
+        words: words(alloc, rest)?,
+    }))
+}
+
 // The lines of the program's runs.
 fn read_run(alloc: Global, word: &str, rest: Option<&str>) -> Result<Option<Line>, LineError> {
     match word {
@@ -206,6 +225,7 @@ fn read_run(alloc: Global, word: &str, rest: Option<&str>) -> Result<Option<Line
             }))
         }
         "run" => act_line(Action::Run(words(alloc, rest)?)),
+        "halt" => read_halt(alloc, rest),
         "fail" => read_fail(alloc, Target::World, rest),
         "fail-out" => read_fail(alloc, Target::Out, rest),
         "fail-err" => read_fail(alloc, Target::Err, rest),

@@ -1,11 +1,12 @@
 // A run of the program's call, and what it prints.
 
-use crate::line::Target;
+use crate::line::{Halted, Target};
 use crate::text::{Page, Place};
 use kb_memory::{MemorySink, MemoryWorld};
 use kb_top::{Setting, start};
-use kb_world::Texts;
+use kb_world::{Roots, Texts};
 use std::alloc::{AllocError, Global};
+use std::mem;
 
 /// The calls that are to fail in the next run.
 #[derive(Drop)]
@@ -100,5 +101,37 @@ pub fn run(
     err.fail_at(err_writes);
     let end = start(alloc, words.as_slice(), setting, world, &mut out, &mut err);
     world.fail_at(Vec::new(alloc));
+    print_run(alloc, page, words, out.bytes(), err.bytes(), end.code())
+}
+
+// Puts what a crash leaves by the choice in place of the world.
+fn lose(
+    alloc: Global,
+    world: &mut MemoryWorld,
+    roots: &Roots,
+    choice: u64,
+) -> Result<(), AllocError> {
+    let none = MemoryWorld::new(alloc, roots.clone()?, Vec::new(alloc));
+    let lost = mem::replace(world, none).lose(alloc, choice)?;
+    *world = lost;
+    Ok(())
+}
+
+/// Runs the program's call with these words over a world that is halted, and goes on with what a crash leaves of it by the
+/// same choice. No call is to fail behind it.
+pub fn halt(
+    alloc: Global,
+    world: &mut MemoryWorld,
+    setting: &Setting,
+    roots: &Roots,
+    halted: &Halted,
+    page: &mut Page,
+) -> Result<(), AllocError> {
+    let mut out = MemorySink::new(alloc);
+    let mut err = MemorySink::new(alloc);
+    let words = &halted.words;
+    world.halt_after(alloc, halted.after, halted.choice);
+    let end = start(alloc, words.as_slice(), setting, world, &mut out, &mut err);
+    lose(alloc, world, roots, halted.choice)?;
     print_run(alloc, page, words, out.bytes(), err.bytes(), end.code())
 }

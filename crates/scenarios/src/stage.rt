@@ -8,12 +8,12 @@ use crate::edit::{fill, place, place_zeros, remove};
 use crate::error::{BadLine, LineError};
 use crate::facts::print_facts;
 use crate::line::{Action, Show};
-use crate::run::{Failures, run};
+use crate::run::{Failures, halt, run};
 use crate::scene::{Scene, Step, usual_setting};
 use crate::show::{print_index, print_requests, print_tree};
 use crate::store::{print_claimant, print_store};
 use crate::text::Page;
-use kb_memory::MemoryWorld;
+use kb_memory::{MemoryWorld, has_few_effects};
 use kb_top::{Setting, SettingError, host_of};
 use kb_world::{EffectRow, Host};
 use std::alloc::{AllocError, Global};
@@ -48,9 +48,13 @@ fn machine(alloc: Global, setting: &Setting) -> Result<Host, AllocError>
     }
 }
 
-// It says nothing of the world that it makes, so that nothing has to be carried along.
+// It says nothing of the world that it makes, so that nothing has to be carried along. A text with more effects than a
+// world can have finds no memory.
 fn world_of(alloc: Global, host: &Host, rows: Vec<EffectRow>) -> Result<MemoryWorld, AllocError> {
-    MemoryWorld::new(alloc, host.roots.clone()?, rows)
+    if !has_few_effects(&rows) {
+        return Err(AllocError);
+    }
+    Ok(MemoryWorld::new(alloc, host.roots.clone()?, rows))
 }
 
 // Prints what the world has.
@@ -102,6 +106,10 @@ fn act(
         Action::Run(words) => {
             let failures = mem::replace(&mut progress.failures, Failures::none(alloc));
             Ok(run(alloc, world, setting, &words, failures, page)?)
+        }
+        Action::Halt(halted) => {
+            progress.failures = Failures::none(alloc);
+            Ok(halt(alloc, world, setting, &host.roots, &halted, page)?)
         }
         Action::Show(show) => print(alloc, world, host, progress, show, page),
         Action::Ask(ask) => print_answer(alloc, page, &ask, &given_for(alloc, host)?),

@@ -1,6 +1,5 @@
 -- The entries go first, and then the directory.
-use Rattle.std.proofs.Common.{◌∙◌, rules}
-use Rattle.kb_world.specs.Tree.{without}
+use Rattle.std.proofs.Common.{◌∙◌}
 use Rattle.kb_walk.specs.Wipe.{without_tree, emptied}
 use Rattle.kb_walk.proofs.WipeCalls.{takes_none, takes_part, takes_since, emptied_and_gone, dir_left, all_met}
 use Rattle.kb_walk.proofs.wiping.wipe_directory.Goals as goal

@@ -1,16 +1,16 @@
-use Rattle.std.proofs.Common.{refl, sym, ap, ◌∙◌}
-use Rattle.kb_memory.specs.Plan.{is_over, risen}
-use Rattle.kb_memory.proofs.PlanLaws.{looks}
+use Rattle.std.proofs.Common.{refl}
+use Rattle.kb_memory.specs.World.{state_of, disk_of, tree_of, uncut}
+use Rattle.kb_memory.proofs.CallLaws.{ends_so, looks, follows, left_uncut}
 use Rattle.kb_memory.proofs.world.MemoryWorld.begin.Goals as goal
-
-pub returns-then-next_fails-clause-looks : goal.returns-then-next_fails-clause-looks
-returns-then-next_fails-clause-looks c =
-    looks _ _ _ c.args.self.now.failures.due.items refl (record { ran = refl; lasts = record { roots = refl; script = refl; told = refl } }) c.next_fails.ensures.later
-    (c.next_fails.ensures.faults ∙ ap (λ due. risen due c.args.self.now.failures.faults) c.next_fails.ensures.fails)
-    refl (ap is_over c.next_fails.ensures.due) (λ _. sym c.next_fails.ensures.fails ∙ c.if-next_fails.true)
 
 pub returns-clause-looks : goal.returns-clause-looks
 returns-clause-looks c =
-    looks _ _ _ c.args.self.now.failures.due.items refl (record { ran = refl; lasts = record { roots = refl; script = refl; told = refl } }) c.next_fails.ensures.later
-    (c.next_fails.ensures.faults ∙ ap (λ due. risen due c.args.self.now.failures.faults) c.next_fails.ensures.fails)
-    refl (ap is_over c.next_fails.ensures.due) (λ e. cc)
+    let old = c.args.self.now in
+    looks (state_of old) (state_of old) (disk_of old) (disk_of old) old.calls c.next.new.self c.next.ensures.counted c.end.result c.next.result c.next.ensures.fate
+    (ends_so c.next.result c.end.result c.end.ensures) refl refl refl refl
+
+pub returns-clause-plan : goal.returns-clause-plan
+returns-clause-plan c =
+    let old = c.args.self.now in
+    follows uncut old (record old { calls = c.next.new.self }) c.end.result c.next.result c.next.ensures.fate (ends_so c.next.result c.end.result c.end.ensures) c.next.ensures.counted
+    (λ e. left_uncut c.next.result (tree_of old) (tree_of old) refl) (λ e. refl)

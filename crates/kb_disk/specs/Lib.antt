@@ -1,0 +1,4 @@
+pub mod Coded
+pub mod Edits
+pub mod Stored
+pub mod Undo
