@@ -47,7 +47,7 @@ pub record IsFit (roots : Roots) (patch : Patch) (tree : Tree) : Type 0 where
 
 -- ---- when the changes of a patch are valid: facts of its lists alone
 
--- what goes with all below it is public, and a change may speak of it
+-- a public path that a change may speak of
 pub record IsPlacedPath (roots : Roots) (path : Path) : Type 0 where
   pub opens : IsAlwaysPublic roots path
   pub placed : is_changeable roots path ≡ true
@@ -56,6 +56,7 @@ pub record IsPlacedPath (roots : Roots) (path : Path) : Type 0 where
 abbrev pub coming_paths : Patch → List Path
 coming_paths patch = patch.dirs ++ map (λ put. put.0) patch.puts
 
+-- The patch may stand: what goes and what comes has its place, and no part of it is in another's way.
 pub record MayStand (roots : Roots) (patch : Patch) : Type 0 where
   pub drops : AllByRecursion (IsPlacedPath roots) patch.drops
   pub wipes : AllByRecursion (IsPlacedPath roots) patch.wipes
