@@ -4,6 +4,7 @@ mod PatchDone
 mod PatchForeign
 mod PatchGroups
 mod PatchMet
+mod PatchOwn
 mod PatchParents
 mod PatchPlaces
 mod PatchPlain

@@ -26,7 +26,7 @@ use Rattle.kb_world.proofs.OrderLaws.{in_order_rises, any-found, any-of}
 use Rattle.kb_world.proofs.PatchLaws.{all_dropped-at, all_wiped-at, with_directories-at, with_nodes-at}
 use Rattle.kb_changes.specs.Change.{root_path, staged_path, do_change, done}
 use Rattle.kb_changes.specs.Changes.{numbered_puts, drops_of, scratches, changes_of, nodes_below, staged_below, nodes_of, HasStaged}
-use Rattle.kb_changes.specs.Fit.{is_rooted, IsFitWipe, IsFitPut, IsFit}
+use Rattle.kb_changes.specs.Fit.{is_rooted, IsInOwnRoot, IsFitPut, IsFit}
 use Rattle.kb_changes.specs.Valid.{written_roots}
 use Rattle.kb_changes.specs.declared.change.Change.{Change}
 use Rattle.kb_changes.specs.declared.change.Change.TheVariants.{Dir, Drop, DropDir, Wipe}
@@ -136,7 +136,7 @@ module _ (roots : Roots) (apart : AreApart roots) (script : Script) (patch : Pat
       own_wipes : list_any (is_under q) patch.wipes ≡ true → ⊥
       own_wipes e =
           let found = any-found (is_under q) patch.wipes e in
-          let w = each-listed (IsFitWipe roots) patch.wipes fit.wipes found.0 found.2 in
+          let w = each-listed (IsInOwnRoot roots) patch.wipes fit.wipes found.0 found.2 in
           let at = wipe_place roots apart found.0 w in none found.0 at.own w.opens at.below found.1
 
       own_scratches : list_any (is_under q) (scratches roots emptied) ≡ true → ⊥
@@ -355,7 +355,7 @@ module _ (roots : Roots) (apart : AreApart roots) (script : Script) (patch : Pat
       ∙ all_tidied-foreign roots emptied put_over emptied_open ∙ over.foreign ∙ with_directories-foreign roots dirs left dirs_open
       ∙ all_wiped-foreign roots wipes without_drops
       (all-append (λ path. (q : Path) → is_under q path ≡ true → IsNeverForeign roots q) patch.wipes (scratches roots emptied)
-      (AreAll (IsFitWipe roots) (λ path. (q : Path) → is_under q path ≡ true → IsNeverForeign roots q) (λ path w. wiped_own roots apart path (wipe_place roots apart path w)) patch.wipes fit.wipes)
+      (AreAll (IsInOwnRoot roots) (λ path. (q : Path) → is_under q path ≡ true → IsNeverForeign roots q) (λ path w. wiped_own roots apart path (wipe_place roots apart path w)) patch.wipes fit.wipes)
       (all_listed (λ path. (q : Path) → is_under q path ≡ true → IsNeverForeign roots q) (scratches roots emptied)
       (λ path listed q under. private-own roots q (scratch_private roots emptied q (any-of (is_under q) (scratches roots emptied) path under listed)))))
       ∙ all_dropped-foreign roots (drops_of patch) tree drops_open

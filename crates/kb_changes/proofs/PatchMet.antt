@@ -1,72 +1,38 @@
 -- What the laws of patches ask for is met.
-use Rattle.std.proofs.Common.{◌≡◌, ◌⊎◌, zero, suc, Bool, true, false, cond, ◌&&◌, ◌||◌, not, [], ◌∷◌, ◌++◌, length, drop, Option, Some, None, is_some, codes, refl, sym, ap, ◌∙◌, subst, inl, inr, arith, length-append, append_assoc}
+use Rattle.std.proofs.Common.{◌≡◌, ◌⊎◌, zero, suc, Bool, true, false, cond, ◌&&◌, ◌||◌, not, [], ◌∷◌, ◌++◌, length, Option, Some, None, is_some, codes, refl, sym, ap, ◌∙◌, inl, inr, arith, length-append, append_assoc}
 use Rattle.std.specs.List.{list_any}
 use Rattle.std.specs.Option.{option_or}
 use Rattle.std.specs.FinMap.{empty}
-use Rattle.std.specs.Cmp.{first_so}
 use Rattle.std.specs.Cmp.Derive.{both_true}
-use Rattle.kb_world.specs.Names.{is_word, is_version, begins_alphanumeric}
-use Rattle.kb_world.specs.Path.{Path, child, parent, is_under}
+use Rattle.kb_world.specs.Path.{Path, parent}
 use Rattle.kb_world.specs.Patch.{Patch, above, dirs_of, in_order, is_listed, left_at}
-use Rattle.kb_world.specs.Public.{IsAlwaysPublic, is_private, private_places, intent_path, staging_path}
+use Rattle.kb_world.specs.Public.{IsAlwaysPublic, staging_path}
 use Rattle.kb_world.specs.Roots.{AreApart, is_below, roots_under}
 use Rattle.kb_world.specs.Steps.{blocking, add_patch, add_blocked}
 use Rattle.kb_world.specs.Store.{is_key, module_path, version_path, link_path, source_text}
-use Rattle.kb_world.specs.StorePath.{key_of, store_path, is_in_scratch}
-use Rattle.kb_world.specs.Tree.{Tree, node_at, with_node, is_dir, is_leaf, IsFormed, sole}
+use Rattle.kb_world.specs.StorePath.{key_of}
+use Rattle.kb_world.specs.Tree.{Tree, node_at, with_node, is_dir, is_leaf, IsFormed}
 use Rattle.kb_world.specs.TreeLaws.{same_path, same_path-true, node_at-with_node, with_node-here, with_node-apart, node_at-empty}
 use Rattle.kb_world.specs.declared.job.Key.{Key}
 use Rattle.kb_world.specs.declared.roots.Roots.{Roots}
 use Rattle.kb_world.specs.declared.store_path.StorePath.TheVariants.{SourceLink}
 use Rattle.kb_world.specs.declared.tree.Node.{Node}
 use Rattle.kb_world.specs.declared.tree.Node.TheVariants as node
-use Rattle.kb_world.proofs.NameLaws.{known}
-use Rattle.kb_world.proofs.PathLaws.{elsewhere, by_test, under-append}
-use Rattle.kb_world.proofs.PublicLaws.{written_apart, in_dkms}
+use Rattle.kb_world.proofs.PathLaws.{by_test}
 use Rattle.kb_world.proofs.PublicPlaces.{public_place}
-use Rattle.kb_world.proofs.StorePathLaws.{link_no_scratch}
-use Rattle.kb_world.proofs.ListedLaws.{or_first, or_second, listed-reverse, listed-in_order}
+use Rattle.kb_world.proofs.ListedLaws.{listed-reverse, listed-in_order}
 use Rattle.kb_world.proofs.AboveLaws.{above-dkms}
 use Rattle.kb_world.proofs.OrderLaws.{any-found}
 use Rattle.kb_changes.specs.Change.{staged_path}
 use Rattle.kb_changes.specs.Changes.{HasStaged, nodes_of}
-use Rattle.kb_changes.specs.Fit.{IsFit, MayStand}
-use Rattle.kb_changes.specs.Valid.{written_roots, new_intent_path, is_kept_out, is_initrd, is_initrd_name, is_changeable}
+use Rattle.kb_changes.specs.Fit.{IsInOwnRoot, IsFit, MayStand}
+use Rattle.kb_changes.specs.Valid.{is_initrd}
 use Rattle.kb_changes.specs.declared.change.RootName.TheVariants as root_name
 use Rattle.kb_changes.proofs.PatchParents.{either, below-append}
-use Rattle.kb_changes.proofs.PatchPuts.{open_no_private}
+use Rattle.kb_changes.proofs.PatchOwn.{own_placed, own_no_initrd, dirs_own}
 
 untrue : false ≡ true → ⊥
 untrue e = cc
-
--- ---- a public path below the dkms root is one that a change may speak of
-
-not_initrd : (roots : Roots) → AreApart roots → (q : Path) → is_under q roots.dkms ≡ true → is_initrd roots q ≡ false
-not_initrd roots apart q under = ap (λ b. is_initrd_name (cond b (sole (drop (length roots.boot) q)) None)) (elsewhere q roots.dkms roots.boot (written_apart roots apart).dkms_boot under)
-
--- seven tests of which none holds, and the six that count
-six_of : (i n a b c d p : Bool) → (i || (n || (a || (b || (c || (d || (p || false))))))) ≡ false → ((i || (a || (b || (c || (d || false))))) ≡ false) × (n ≡ false)
-six_of i n a b c d p e =
-    let hi = or_first i _ e in
-    let e1 = or_second i _ e in
-    let e2 = or_second n _ e1 in
-    let e3 = or_second a _ e2 in
-    let e4 = or_second b _ e3 in
-    let e5 = or_second c _ e4 in (
-      (λ t. hi t || (or_first a _ e2 t || (or_first b _ e3 t || (or_first c _ e4 t || (or_first d _ e5 t || false))))),
-      or_first n _ e1,
-    )
-
-placed_below : (roots : Roots) → AreApart roots → (q : Path) → IsAlwaysPublic roots q → is_below q roots.dkms ≡ true → is_changeable roots q ≡ true
-placed_below roots apart q opens below =
-    let none : is_private roots q ≡ false = by_test (is_private roots q) (open_no_private roots q opens) in
-    let six = six_of (is_under q (intent_path roots)) (is_under q (new_intent_path roots)) (is_under q (staging_path roots.dkms)) (is_under q (staging_path roots.src)) (is_under q (staging_path roots.modules))
-    (is_under q (staging_path roots.boot)) (is_under q (child roots.boot (codes ".kb-plugins"))) (or_first (list_any (is_under q) (private_places roots)) (is_in_scratch (store_path roots q)) none) in
-    all (list_any (is_below q) (written_roots roots)) (is_kept_out roots q) (is_under q (new_intent_path roots)) (is_initrd roots q)
-    (ap (λ b. b || list_any (is_below q) (roots.src ∷ roots.modules ∷ roots.boot ∷ [])) below) six.0 six.1 (not_initrd roots apart q (first_so (is_under q roots.dkms) _ below))
-  where
-    all : (a b c d : Bool) → a ≡ true → b ≡ false → c ≡ false → d ≡ false → (a && not b && not c && not d) ≡ true
-    all a b c d p q r s = λ i. p i && not (q i) && not (r i) && not (s i)
 
 -- ---- Add
 
@@ -93,29 +59,20 @@ module _ (roots : Roots) (apart : AreApart roots) (key : Key) (named : is_key ke
       by (inl s) = inl (same_path-true q (module_path roots key) s)
       by (inr more) = inr (same_path-true q (version_path roots key) (elim (either (same_path q (version_path roots key)) false more) [ inl s ↦ s | inr none ↦ absurd (untrue none) ]))
 
-  made_under : (q : Path) → is_listed q (dirs_of roots patch) ≡ true → is_under q roots.dkms ≡ true
-  made_under q listed = elim (made q listed) [
-    | inl is ↦ ap (λ p. is_under p roots.dkms) is ∙ under-append roots.dkms (key.module ∷ [])
-    | inr is ↦ ap (λ p. is_under p roots.dkms) is ∙ under-append roots.dkms (key.module ∷ key.version ∷ [])
-  ]
+  link_own : IsInOwnRoot roots (link_path roots key)
+  link_own = record { opens = link_open; placed = ap (λ b. b || list_any (is_below (link_path roots key)) (roots.src ∷ roots.modules ∷ [])) link_below }
 
-  plain : begins_alphanumeric key.module ≡ true
-  plain = (known key.module (first_so (is_word key.module) (is_version key.version) named)).begins
-
-  made_open : (q : Path) → is_listed q (dirs_of roots patch) ≡ true → IsAlwaysPublic roots q
-  made_open q listed = elim (made q listed) [
-    | inl is ↦ subst (IsAlwaysPublic roots) (sym is) (in_dkms roots apart (key.module ∷ []) plain refl)
-    | inr is ↦ subst (IsAlwaysPublic roots) (sym is) (in_dkms roots apart (key.module ∷ key.version ∷ []) plain (link_no_scratch key.module key.version))
-  ]
+  made_own : (q : Path) → is_listed q (dirs_of roots patch) ≡ true → IsInOwnRoot roots q
+  made_own q listed = dirs_own roots apart patch (link_own, tt) q listed
 
   pub add_stands : MayStand roots (add_patch roots key)
   add_stands = record {
     drops = tt;
     wipes = tt;
-    comes = (record { opens = link_open; placed = placed_below roots apart (link_path roots key) link_open link_below }, tt);
+    comes = (record { opens = link_open; placed = (own_placed roots apart (link_path roots key) link_own).placed }, tt);
     dirs = by_test (list_any (is_initrd roots) (dirs_of roots patch)) (λ e.
         let found = any-found (is_initrd roots) (dirs_of roots patch) e in
-        untrue (sym (not_initrd roots apart found.0 (made_under found.0 found.2)) ∙ found.1));
+        untrue (sym (own_no_initrd roots apart found.0 (made_own found.0 found.2)) ∙ found.1));
     unwiped = refl;
     differ = refl;
     kept = both_true (ap not (listed-reverse (link_path roots key) (in_order []) ∙ listed-in_order (link_path roots key) [])) refl;
@@ -127,7 +84,7 @@ module _ (roots : Roots) (apart : AreApart roots) (key : Key) (named : is_key ke
     formed = formed;
     drops = tt;
     wipes = tt;
-    dirs = λ q listed. record { opens = made_open q listed; free = no_leaf q (made q listed) };
+    dirs = λ q listed. record { opens = (made_own q listed).opens; free = no_leaf q (made q listed) };
     puts = (record { opens = link_open; leaf = refl; free = no_dir; no_dir = by_test (is_listed (link_path roots key) (dirs_of roots patch)) (λ listed. longer (made (link_path roots key) listed)) }, tt);
     rooted = (ap (λ b. b || list_any (λ root. is_below (link_path roots key) root && is_dir (node_at tree root)) (roots.src ∷ roots.modules ∷ roots.boot ∷ [])) (both_true link_below dkms), tt);
     counted = omega arith;

@@ -26,7 +26,7 @@ use Rattle.kb_world.proofs.AboveLaws.{above-below, above-dkms, each-listed}
 use Rattle.kb_changes.specs.Change.{root_path, staged_path}
 use Rattle.kb_changes.specs.Changes.{scratches}
 use Rattle.kb_changes.specs.Valid.{is_version_dir, are_version_names, written_roots}
-use Rattle.kb_changes.specs.Fit.{IsFitWipe}
+use Rattle.kb_changes.specs.Fit.{IsInOwnRoot}
 use Rattle.kb_changes.specs.declared.change.RootName.{RootName}
 use Rattle.kb_changes.specs.declared.change.RootName.TheVariants as root_name
 use Rattle.kb_changes.proofs.PatchParents.{not_true, or_right, nth_listed, either, found-flat_map, directories-over, modules_boot}
@@ -194,7 +194,7 @@ module _ (roots : Roots) (apart : AreApart roots) where
     pub below : is_below path (root_path roots own) ≡ true
     pub no_boot : (q : Path) → is_under q path ≡ true → is_under q roots.boot ≡ false
 
-  pub wipe_place : (path : Path) → IsFitWipe roots path → WipePlace path
+  pub wipe_place : (path : Path) → IsInOwnRoot roots path → WipePlace path
   wipe_place path w = dkms (either (is_below path roots.dkms) _ w.placed)
     where
       no_boot : (root : Path) → are_apart root roots.boot ≡ true → is_below path root ≡ true → (q : Path) → is_under q path ≡ true → is_under q roots.boot ≡ false
@@ -254,7 +254,7 @@ module _ (roots : Roots) (apart : AreApart roots) where
     pub opens : IsAlwaysPublic roots path
     pub below : is_below path roots.dkms ≡ true
 
-  pub emptied_place : (patch : Patch) → AllByRecursion (IsAlwaysPublic roots) patch.drops → AllByRecursion (IsFitWipe roots) patch.wipes → (q : Path) → is_listed q (emptied_of roots patch) ≡ true → EmptiedPlace q
+  pub emptied_place : (patch : Patch) → AllByRecursion (IsAlwaysPublic roots) patch.drops → AllByRecursion (IsInOwnRoot roots) patch.wipes → (q : Path) → is_listed q (emptied_of roots patch) ≡ true → EmptiedPlace q
   emptied_place patch drops wipes q listed = record {
     opens = λ at. public_there q at (ap (λ b. b || list_any (is_under q) (roots.src ∷ roots.modules ∷ roots.boot ∷ [])) under) (elsewhere q roots.dkms roots.boot (written_apart roots apart).dkms_boot under)
         (by_test (is_private roots q) (λ private. open_no_private roots p opens (private_down roots q p private (first_so (is_under p q) _ (above-below roots p q found.2)))));
@@ -276,7 +276,7 @@ module _ (roots : Roots) (apart : AreApart roots) where
       opens : IsAlwaysPublic roots p
       opens = elim (either (is_listed p patch.drops) (is_listed p patch.wipes) (sym (listed-append p patch.drops patch.wipes) ∙ passed.1)) [
         | inl dropped ↦ each-listed (IsAlwaysPublic roots) patch.drops drops p dropped
-        | inr wiped ↦ (each-listed (IsFitWipe roots) patch.wipes wipes p wiped).opens
+        | inr wiped ↦ (each-listed (IsInOwnRoot roots) patch.wipes wipes p wiped).opens
       ]
 
       below : is_below q roots.dkms ≡ true

@@ -18,8 +18,8 @@ use Rattle.kb_changes.specs.Valid.{written_roots, is_changeable, is_initrd, none
 abbrev pub is_rooted : Roots → Tree → Path → Bool
 is_rooted roots tree path = list_any (λ root. is_below path root && is_dir (node_at tree root)) (written_roots roots)
 
--- a path that is wiped is public, and lies below a root all of which is public or the tool's own
-pub record IsFitWipe (roots : Roots) (path : Path) : Type 0 where
+-- a public path below a root in which nothing is foreign, as what lies loose in the boot root is
+pub record IsInOwnRoot (roots : Roots) (path : Path) : Type 0 where
   pub opens : IsAlwaysPublic roots path
   pub placed : list_any (is_below path) (roots.dkms ∷ roots.src ∷ roots.modules ∷ []) ≡ true
 
@@ -39,7 +39,7 @@ pub record IsFitPut (roots : Roots) (patch : Patch) (tree : Tree) (put : Path ×
 pub record IsFit (roots : Roots) (patch : Patch) (tree : Tree) : Type 0 where
   pub formed : IsFormed tree
   pub drops : AllByRecursion (IsAlwaysPublic roots) patch.drops
-  pub wipes : AllByRecursion (IsFitWipe roots) patch.wipes
+  pub wipes : AllByRecursion (IsInOwnRoot roots) patch.wipes
   pub dirs : (path : Path) → is_listed path (dirs_of roots patch) ≡ true → IsFitDir roots patch tree path
   pub puts : AllByRecursion (IsFitPut roots patch tree) patch.puts
   pub rooted : AllByRecursion (λ path. is_rooted roots tree path ≡ true) (patch.dirs ++ map (λ put. put.0) patch.puts)
@@ -47,7 +47,7 @@ pub record IsFit (roots : Roots) (patch : Patch) (tree : Tree) : Type 0 where
 
 -- ---- when the changes of a patch are valid: facts of its lists alone
 
--- what goes with all below it is public, and a change may speak of it
+-- a public path that a change may speak of
 pub record IsPlacedPath (roots : Roots) (path : Path) : Type 0 where
   pub opens : IsAlwaysPublic roots path
   pub placed : is_changeable roots path ≡ true
@@ -56,6 +56,7 @@ pub record IsPlacedPath (roots : Roots) (path : Path) : Type 0 where
 abbrev pub coming_paths : Patch → List Path
 coming_paths patch = patch.dirs ++ map (λ put. put.0) patch.puts
 
+-- The patch may stand: what goes and what comes has its place, and no part of it is in another's way.
 pub record MayStand (roots : Roots) (patch : Patch) : Type 0 where
   pub drops : AllByRecursion (IsPlacedPath roots) patch.drops
   pub wipes : AllByRecursion (IsPlacedPath roots) patch.wipes

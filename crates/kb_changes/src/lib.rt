@@ -13,6 +13,6 @@ mod runs;
 mod valid;
 
 pub use change::{Change, Intent, Recovered, RootName};
-pub use patch_laws::{a_patch_is_done, a_patch_is_valid, an_add_fits};
+pub use patch_laws::{a_patch_is_done, a_patch_is_valid, an_add_fits, own_paths_may_stand};
 pub use roots::staged_path;
 pub use valid::is_valid;

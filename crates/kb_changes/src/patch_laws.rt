@@ -2,7 +2,8 @@
 // for.
 ghost use Rattle.std.specs.Prelude.{◌≡◌, ◌++◌, List, map, None, true, false};
 ghost use Rattle.std.specs.List.{AllByRecursion};
-ghost use Rattle.kb_world.specs.Patch.{Patch, patched};
+ghost use Rattle.kb_world.specs.Path.{Path};
+ghost use Rattle.kb_world.specs.Patch.{Patch, dirs_of, patched, is_listed};
 ghost use Rattle.kb_world.specs.Public.{public_tree, foreign_tree};
 ghost use Rattle.kb_world.specs.Roots.{AreApart};
 ghost use Rattle.kb_world.specs.Script.{Script};
@@ -14,8 +15,8 @@ ghost use Rattle.kb_world.specs.declared.job.Key.{Key};
 ghost use Rattle.kb_world.specs.declared.roots.Roots.{Roots};
 ghost use Rattle.kb_changes.specs.Change.{done};
 ghost use Rattle.kb_changes.specs.Changes.{changes_of, nodes_of, HasStaged};
-ghost use Rattle.kb_changes.specs.Fit.{IsFit, MayStand, IsFitRequest};
-ghost use Rattle.kb_changes.specs.Valid.{is_valid};
+ghost use Rattle.kb_changes.specs.Fit.{IsInOwnRoot, IsPlacedPath, coming_paths, IsFit, MayStand, IsFitRequest};
+ghost use Rattle.kb_changes.specs.Valid.{is_initrd, is_valid};
 ghost use Rattle.kb_changes.specs.declared.change.Change.TheVariants.{Run};
 
 /// Where a patch fits a tree and its nodes are staged there, doing its changes makes of the public tree what the patch
@@ -45,4 +46,13 @@ pub fn an_add_fits()
         IsFit roots (add_patch roots key) tree }
     ensures met { (roots : Roots) × (patch : Patch) × (tree : Tree) × AreApart roots × IsFit roots patch tree
         × HasStaged roots (nodes_of roots patch) tree × MayStand roots patch }
+{}
+
+/// A public path below the roots dkms, src and modules may be changed, and has no name of an initrd. And where all that
+/// comes of a patch is such, so is each directory that is made.
+pub fn own_paths_may_stand()
+    ensures placed { (roots : Roots) → AreApart roots → (path : Path) → IsInOwnRoot roots path → IsPlacedPath roots path }
+    ensures no_initrd { (roots : Roots) → AreApart roots → (path : Path) → IsInOwnRoot roots path → is_initrd roots path ≡ false }
+    ensures dirs { (roots : Roots) → AreApart roots → (patch : Patch) → AllByRecursion (IsInOwnRoot roots) (coming_paths patch) → (path : Path) →
+        is_listed path (dirs_of roots patch) ≡ true → IsInOwnRoot roots path }
 {}
