@@ -1,5 +1,5 @@
 -- One item more is spelled.
-use Rattle.std.proofs.Common.{◌≡◌, ℕ, ◌+◌, ◌<◌, List, [], ◌∷◌, ◌++◌, length, take, get_or, map, flat_map, codes, All, refl, sym, ap, ◌∙◌, subst, append_assoc, append-nil}
+use Rattle.std.proofs.Common.{◌≡◌, ℕ, ◌+◌, ◌<◌, List, [], ◌∷◌, ◌++◌, length, take, get_or, map, flat_map, codes, sym, ap, ◌∙◌, append_assoc, append-nil}
 use Rattle.std.proofs.lemmas.List.{take_more, map-append}
 use Rattle.std.proofs.lemmas.Grind.{flat_map-append}
 use Rattle.kb_changes.specs.Text.{line_of_fields}
@@ -15,7 +15,7 @@ pub flat_more : {A B : Type 0} (f : A → List B) (xs : List A) (i : ℕ) (x : A
 flat_more f xs i x start now after within is so pushed =
     pushed ∙ ap (λ ys. ys ++ f x) so ∙ append_assoc start (flat_map f (take i xs)) (f x)
     ∙ ap (λ ys. start ++ ys) (sym (ap (flat_map f) (take_more xs i x within ∙ ap (λ z. take i xs ++ z ∷ []) (sym is)) ∙ flat_map-append f (take i xs) (x ∷ [])
-        ∙ ap (λ ys. flat_map f (take i xs) ++ ys) (append-nil (f x))))
+    ∙ ap (λ ys. flat_map f (take i xs) ++ ys) (append-nil (f x))))
 
 -- the digest behind what it is of
 pub ended : (body first second text digest is : List ℕ) → first ≡ body ++ codes "end " → second ≡ first ++ digest → text ≡ second ++ codes "\n" → digest ≡ is →

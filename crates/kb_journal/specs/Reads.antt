@@ -1,5 +1,5 @@
 -- What reading the fields of a journal gives. This project's own.
-use Rattle.std.specs.Prelude.{◌≡◌, ℕ, Bool, ◌||◌, List, [], ◌∷◌, nat_eq, Result, Ok, Err}
+use Rattle.std.specs.Prelude.{◌≡◌, ℕ, Bool, ◌||◌, List, nat_eq, Result, Ok, Err}
 use Rattle.kb_journal.specs.declared.error.IntentError.{IntentError}
 use Rattle.kb_journal.specs.declared.error.IntentError.TheVariants.{Damaged, NoMemory}
 

@@ -88,10 +88,7 @@ pub(crate) fn is_word(field: &Bytes, word: &str) -> bool
 }
 
 // The text of a field that is one: a dash is the empty text, any other the hexadecimal of its bytes.
-pub(crate) fn text_of(alloc: Global, field: &[u8]) -> Result<Option<Text>, IntentError>
-    ensures spelled { (text : List ℕ) → IsUtf8 text → field.now ≡ rule.text_field text → ReadsBack (Some text) [] result [] }
-    ensures word { (error : FromHexError) → field.now ≢ codes "-" → decode_of field.now ≡ Err error → ReadsBack None [] result [] }
-{
+pub(crate) fn text_of(alloc: Global, field: &[u8]) -> Result<Option<Text>, IntentError> {
     if field == "-".as_bytes() {
         return Ok(Some(Text::of(alloc, "")?));
     }

@@ -13,8 +13,7 @@ use kb_world::{Roots, Sequence, Texts};
 use std::alloc::Global;
 
 // Reads texts up to the first field that is none.
-fn read_words(alloc: Global, fields: &mut Fields) -> Result<Texts, IntentError>
-{
+fn read_words(alloc: Global, fields: &mut Fields) -> Result<Texts, IntentError> {
     let mut words = Sequence::new(alloc);
     for _ in 0..fields.len() {
         let Some(field) = fields.next() else {
@@ -32,8 +31,7 @@ fn read_words(alloc: Global, fields: &mut Fields) -> Result<Texts, IntentError>
 }
 
 // The intent of a text that may be a journal. What stands between the fields isn't looked at, nor the digest.
-fn read_loosely(alloc: Global, text: &[u8]) -> Result<Intent, IntentError>
-{
+fn read_loosely(alloc: Global, text: &[u8]) -> Result<Intent, IntentError> {
     let mut fields = Fields::of(alloc, text)?;
     // `kmodboot intent 1` and `words`
     for _ in 0..4 {

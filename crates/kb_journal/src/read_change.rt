@@ -15,9 +15,7 @@ use kb_changes::{Change, RootName};
 use kb_world::{Area, Bytes, Request, Sequence};
 use std::alloc::Global;
 
-fn read_area(alloc: Global, fields: &mut Fields) -> Result<Area, IntentError>
-    ensures { (area : AnArea) (more : List (List ℕ)) → rule.IsTextArea area → fields.old ≡ rule.area_fields area ++ more → ReadsBack area more result fields.new }
-{
+fn read_area(alloc: Global, fields: &mut Fields) -> Result<Area, IntentError> {
     let Some(word) = fields.next() else {
         return Err(IntentError::Damaged);
     };
@@ -34,9 +32,7 @@ fn read_area(alloc: Global, fields: &mut Fields) -> Result<Area, IntentError>
     }
 }
 
-fn read_request(alloc: Global, fields: &mut Fields) -> Result<Request, IntentError>
-    ensures { (request : ARequest) (more : List (List ℕ)) → rule.IsTextRequest request → fields.old ≡ rule.request_fields request ++ more → ReadsBack request more result fields.new }
-{
+fn read_request(alloc: Global, fields: &mut Fields) -> Result<Request, IntentError> {
     let program = read_text(alloc, fields)?;
     let dir = read_path(alloc, fields)?;
     let area = read_area(alloc, fields)?;
@@ -56,9 +52,7 @@ fn read_request(alloc: Global, fields: &mut Fields) -> Result<Request, IntentErr
     })
 }
 
-fn read_root(fields: &mut Fields) -> Result<RootName, IntentError>
-    ensures { (root : ARootName) (more : List (List ℕ)) → fields.old ≡ rule.root_field root ∷ more → ReadsBack root more result fields.new }
-{
+fn read_root(fields: &mut Fields) -> Result<RootName, IntentError> {
     let Some(word) = fields.next() else {
         return Err(IntentError::Damaged);
     };
@@ -75,8 +69,7 @@ fn read_root(fields: &mut Fields) -> Result<RootName, IntentError>
     }
 }
 
-fn read_put(alloc: Global, fields: &mut Fields) -> Result<Change, IntentError>
-{
+fn read_put(alloc: Global, fields: &mut Fields) -> Result<Change, IntentError> {
     let root = read_root(fields)?;
     let number = read_number(fields)?;
     let target = read_path(alloc, fields)?;
@@ -92,8 +85,7 @@ fn read_change(
     alloc: Global,
     word: &Bytes,
     fields: &mut Fields,
-) -> Result<Option<Change>, IntentError>
-{
+) -> Result<Option<Change>, IntentError> {
     if is_word(word, "end") {
         Ok(None)
     } else if is_word(word, "dir") {
@@ -117,8 +109,7 @@ fn read_change(
 pub(crate) fn read_changes(
     alloc: Global,
     fields: &mut Fields,
-) -> Result<Sequence<Change>, IntentError>
-{
+) -> Result<Sequence<Change>, IntentError> {
     let mut changes = Sequence::new(alloc);
     for _ in 0..fields.len() {
         let Some(word) = fields.next() else {

@@ -12,9 +12,7 @@ use std::alloc::Global;
 use std::str;
 
 /// Reads a text.
-pub(crate) fn read_text(alloc: Global, fields: &mut Fields) -> Result<Text, IntentError>
-    ensures { (text : List ℕ) (more : List (List ℕ)) → IsUtf8 text → fields.old ≡ rule.text_field text ∷ more → ReadsBack text more result fields.new }
-{
+pub(crate) fn read_text(alloc: Global, fields: &mut Fields) -> Result<Text, IntentError> {
     match fields.next() {
         Some(field) => match text_of(alloc, field.as_slice())? {
             Some(text) => Ok(text),
@@ -24,9 +22,7 @@ pub(crate) fn read_text(alloc: Global, fields: &mut Fields) -> Result<Text, Inte
     }
 }
 
-fn path_of(alloc: Global, text: &str) -> Result<Path, IntentError>
-    ensures { (path : List (List ℕ)) → rule.IsTextPath path → text.now ≡ rule.path_text path → ReadsBack path [] result [] }
-{
+fn path_of(alloc: Global, text: &str) -> Result<Path, IntentError> {
     match Path::parse(alloc, text) {
         Ok(path) => Ok(path),
         Err(PathError::NotAPath) => Err(IntentError::Damaged),
@@ -35,16 +31,12 @@ fn path_of(alloc: Global, text: &str) -> Result<Path, IntentError>
 }
 
 /// Reads a path.
-pub(crate) fn read_path(alloc: Global, fields: &mut Fields) -> Result<Path, IntentError>
-    ensures { (path : List (List ℕ)) (more : List (List ℕ)) → rule.IsTextPath path → fields.old ≡ rule.path_field path ∷ more → ReadsBack path more result fields.new }
-{
+pub(crate) fn read_path(alloc: Global, fields: &mut Fields) -> Result<Path, IntentError> {
     let text = read_text(alloc, fields)?;
     path_of(alloc, text.as_str())
 }
 
-fn number_of(field: &[u8]) -> Result<u64, IntentError>
-    ensures { (number : ℕ) → number < 2 ^ 64 → field.now ≡ decimal number → ReadsBack number [] result [] }
-{
+fn number_of(field: &[u8]) -> Result<u64, IntentError> {
     match str::from_utf8(field) {
         Ok(text) => match text.parse::<u64>() {
             Ok(number) => Ok(number),
@@ -55,9 +47,7 @@ fn number_of(field: &[u8]) -> Result<u64, IntentError>
 }
 
 /// Reads a number.
-pub(crate) fn read_number(fields: &mut Fields) -> Result<u64, IntentError>
-    ensures { (number : ℕ) (more : List (List ℕ)) → number < 2 ^ 64 → fields.old ≡ decimal number ∷ more → ReadsBack number more result fields.new }
-{
+pub(crate) fn read_number(fields: &mut Fields) -> Result<u64, IntentError> {
     match fields.next() {
         Some(field) => number_of(field.as_slice()),
         None => Err(IntentError::Damaged),
@@ -65,10 +55,7 @@ pub(crate) fn read_number(fields: &mut Fields) -> Result<u64, IntentError>
 }
 
 /// Reads a count and so many texts.
-pub(crate) fn read_texts(alloc: Global, fields: &mut Fields) -> Result<Texts, IntentError>
-    ensures { (texts more : List (List ℕ)) → All IsUtf8 texts → length texts < 2 ^ 64 →
-        fields.old ≡ rule.counted_fields (map rule.text_field texts) ++ more → ReadsBack texts more result fields.new }
-{
+pub(crate) fn read_texts(alloc: Global, fields: &mut Fields) -> Result<Texts, IntentError> {
     let count = read_number(fields)?;
     let mut texts = Sequence::new(alloc);
     for _ in 0..count {
@@ -78,10 +65,10 @@ pub(crate) fn read_texts(alloc: Global, fields: &mut Fields) -> Result<Texts, In
 }
 
 /// Reads a count and so many paths.
-pub(crate) fn read_paths(alloc: Global, fields: &mut Fields) -> Result<Sequence<Path>, IntentError>
-    ensures { (paths : List (List (List ℕ))) (more : List (List ℕ)) → All rule.IsTextPath paths → length paths < 2 ^ 64 →
-        fields.old ≡ rule.counted_fields (map rule.path_field paths) ++ more → ReadsBack paths more result fields.new }
-{
+pub(crate) fn read_paths(
+    alloc: Global,
+    fields: &mut Fields,
+) -> Result<Sequence<Path>, IntentError> {
     let count = read_number(fields)?;
     let mut paths = Sequence::new(alloc);
     for _ in 0..count {
@@ -90,9 +77,7 @@ pub(crate) fn read_paths(alloc: Global, fields: &mut Fields) -> Result<Sequence<
     Ok(paths)
 }
 
-fn read_pair(alloc: Global, fields: &mut Fields) -> Result<(Text, Text), IntentError>
-    ensures { (pair : List ℕ × List ℕ) (more : List (List ℕ)) → IsUtf8 pair.0 × IsUtf8 pair.1 → fields.old ≡ rule.pair_field pair ++ more → ReadsBack pair more result fields.new }
-{
+fn read_pair(alloc: Global, fields: &mut Fields) -> Result<(Text, Text), IntentError> {
     let first = read_text(alloc, fields)?;
     let second = read_text(alloc, fields)?;
     Ok((first, second))
@@ -102,10 +87,7 @@ fn read_pair(alloc: Global, fields: &mut Fields) -> Result<(Text, Text), IntentE
 pub(crate) fn read_pairs(
     alloc: Global,
     fields: &mut Fields,
-) -> Result<Sequence<(Text, Text)>, IntentError>
-    ensures { (pairs : List (List ℕ × List ℕ)) (more : List (List ℕ)) → rule.AreTextPairs pairs → length pairs < 2 ^ 64 →
-        fields.old ≡ rule.pair_fields pairs ++ more → ReadsBack pairs more result fields.new }
-{
+) -> Result<Sequence<(Text, Text)>, IntentError> {
     let count = read_number(fields)?;
     let mut pairs = Sequence::new(alloc);
     for _ in 0..count {

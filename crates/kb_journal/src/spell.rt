@@ -84,11 +84,7 @@ pub(crate) fn push_pairs(
 }
 
 /// Adds a word as it stands.
-pub(crate) fn push_word(
-    alloc: Global,
-    fields: &mut Vec<Text>,
-    word: &str,
-) -> Result<(), AllocError>
+pub(crate) fn push_word(alloc: Global, fields: &mut Vec<Text>, word: &str) -> Result<(), AllocError>
     ensures { OnOk result (fields.new.items ≡ fields.old.items ++ word.now ∷ []) }
 {
     fields.push(Text::of(alloc, word)?)?;

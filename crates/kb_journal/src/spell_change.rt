@@ -84,11 +84,7 @@ fn push_counted_pairs(
 }
 
 // The program, the directory and the area.
-fn push_head(
-    alloc: Global,
-    fields: &mut Vec<Text>,
-    request: &Request,
-) -> Result<(), AllocError>
+fn push_head(alloc: Global, fields: &mut Vec<Text>, request: &Request) -> Result<(), AllocError>
     ensures fields { OnOk result (fields.new.items ≡ fields.old.items ++ rule.head_fields request.now) }
     ensures head { OnOk result (rule.IsTextHead request.now) }
 {
@@ -97,11 +93,7 @@ fn push_head(
     push_area(alloc, fields, &request.area)
 }
 
-fn push_request(
-    alloc: Global,
-    fields: &mut Vec<Text>,
-    request: &Request,
-) -> Result<(), AllocError>
+fn push_request(alloc: Global, fields: &mut Vec<Text>, request: &Request) -> Result<(), AllocError>
     ensures fields { OnOk result (fields.new.items ≡ fields.old.items ++ rule.request_fields request.now) }
     ensures request { OnOk result (rule.IsTextRequest request.now) }
 {

@@ -70,10 +70,7 @@ fn body(alloc: Global, intent: &Intent) -> Result<Bytes, AllocError>
 fn digest(alloc: Global, bytes: &[u8]) -> Result<Text, AllocError>
     ensures { IfOk result (λ text. text ≡ rule.digest_field bytes.now) }
 {
-    Ok(Text::from_string(hex::encode(
-        alloc,
-        Sha256::digest(bytes),
-    )?))
+    Ok(Text::from_string(hex::encode(alloc, Sha256::digest(bytes))?))
 }
 
 /// The journal of an intent: its text, with the digest that tells a whole journal from a torn one.

@@ -1,6 +1,5 @@
 -- The fields so far.
-use Rattle.std.proofs.Common.{◌≡◌, ◌++◌, take, map, flat_map, All}
-use Rattle.std.specs.Str.{IsUtf8}
+use Rattle.std.proofs.Common.{◌≡◌, ◌++◌, take, flat_map}
 use Rattle.kb_changes.specs.Text as rule
 use Rattle.kb_journal.proofs.spell.push_pairs.Given as goal
 

@@ -1,5 +1,5 @@
 -- The fields so far.
-use Rattle.std.proofs.Common.{◌≡◌, ◌++◌, take, map, flat_map, All}
+use Rattle.std.proofs.Common.{◌≡◌, ◌++◌, take, map, All}
 use Rattle.std.specs.Str.{IsUtf8}
 use Rattle.kb_changes.specs.Text as rule
 use Rattle.kb_journal.proofs.spell.push_texts.Given as goal
