@@ -71,6 +71,8 @@ pub enum Show {
     Conf(Path),
     Facts(TokenChoice),
     Index(Path),
+    Journal(Bytes),
+    JournalBytes(Bytes),
 }
 
 /// The kernel and the file that are claimed, and the module and the architecture that don't count.
@@ -276,6 +278,8 @@ fn read_show(alloc: Global, word: &str, rest: Option<&str>) -> Result<Option<Lin
         "claimant" => read_claimant(alloc, rest),
         "conf" => show_line(Show::Conf(last_path(alloc, rest)?)),
         "index" => show_line(Show::Index(last_path(alloc, rest)?)),
+        "journal" => show_line(Show::Journal(last_bytes(alloc, rest)?)),
+        "journal-bytes" => show_line(Show::JournalBytes(last_bytes(alloc, rest)?)),
         "facts" => show_line(Show::Facts(choice(alloc, last_text(alloc, rest)?.as_str())?)),
         _ => Ok(None),
     }

@@ -10,6 +10,7 @@ mod entry;
 mod error;
 mod facts;
 mod fields;
+mod journal;
 mod line;
 mod parts;
 mod plain;

@@ -6,8 +6,13 @@ use kb_memory::MemoryWorld;
 use kb_world::{Area, Node, Path, Request, Roots, Text, World, is_index, is_name};
 use std::alloc::{AllocError, Global};
 
-// Adds a path that is a line's last field.
-fn print_path(alloc: Global, page: &mut Page, front: &str, path: &Path) -> Result<(), AllocError> {
+/// Adds a path that is a line's last field.
+pub fn print_path(
+    alloc: Global,
+    page: &mut Page,
+    front: &str,
+    path: &Path,
+) -> Result<(), AllocError> {
     page.line(alloc, front, path.text(alloc)?.as_str().as_bytes())
 }
 
@@ -104,8 +109,14 @@ fn print_variable(
     page.line(alloc, " env ", variable.as_bytes())
 }
 
-fn print_request(alloc: Global, page: &mut Page, request: &Request) -> Result<(), AllocError> {
-    page.plain("ran")?;
+/// Adds a request behind its first word.
+pub fn print_request(
+    alloc: Global,
+    page: &mut Page,
+    first: &str,
+    request: &Request,
+) -> Result<(), AllocError> {
+    page.plain(first)?;
     page.word(alloc, request.program.as_str())?;
     for word in request.args.as_slice() {
         page.word(alloc, word.as_str())?;
@@ -139,7 +150,7 @@ pub fn print_requests(
     page: &mut Page,
 ) -> Result<usize, AllocError> {
     for request in world.requests().iter().skip(told) {
-        print_request(alloc, page, request)?;
+        print_request(alloc, page, "ran", request)?;
     }
     Ok(world.requests().len())
 }

@@ -7,6 +7,7 @@ use crate::conf::print_conf;
 use crate::edit::{fill, place, place_zeros, remove};
 use crate::error::{BadLine, LineError};
 use crate::facts::print_facts;
+use crate::journal::{print_journal, print_journal_bytes};
 use crate::line::{Action, Show};
 use crate::run::{Failures, halt, run, wipe_path};
 use crate::scene::{Scene, Step, usual_setting};
@@ -77,6 +78,10 @@ fn print(
         Show::Store => print_store(alloc, world, &host.roots, page),
         Show::Claimant(claimed) => print_claimant(alloc, world, &host.roots, &claimed, page),
         Show::Index(path) => Ok(print_index(page, &host.roots, &path)?),
+        Show::Journal(bytes) => print_journal(alloc, page, &host.roots, bytes.as_slice()),
+        Show::JournalBytes(bytes) => {
+            print_journal_bytes(alloc, page, &host.roots, bytes.as_slice())
+        }
         Show::Facts(choice) => print_facts(alloc, world, &host.roots, &choice, page),
         Show::Conf(path) => {
             let given = given_for(alloc, host)?;

@@ -1,0 +1,57 @@
+// An intent is read.
+ghost use Rattle.std.specs.Prelude.{◌≡◌, IfOk, IsErrOf};
+ghost use Rattle.kb_changes.specs.Text as rule;
+ghost use Rattle.kb_changes.specs.declared.change.Intent.{Intent as AnIntent};
+ghost use Rattle.kb_journal.specs.declared.error.IntentError.TheVariants.{Damaged};
+
+use crate::error::IntentError;
+use crate::fields::{Fields, text_of};
+use crate::read_change::read_changes;
+use crate::write::write_intent;
+use kb_changes::{Intent, is_valid};
+use kb_world::{Roots, Sequence, Texts};
+use std::alloc::Global;
+
+// Reads texts up to the first field that is none.
+fn read_words(alloc: Global, fields: &mut Fields) -> Result<Texts, IntentError> {
+    let mut words = Sequence::new(alloc);
+    for _ in 0..fields.len() {
+        let Some(field) = fields.next() else {
+            return Err(IntentError::Damaged);
+        };
+        match text_of(alloc, field.as_slice())? {
+            Some(word) => words.push(word)?,
+            None => {
+                fields.put_back(field)?;
+                return Ok(words);
+            }
+        }
+    }
+    Err(IntentError::Damaged)
+}
+
+// The intent of a text that may be a journal. What stands between the fields isn't looked at, nor the digest.
+fn read_loosely(alloc: Global, text: &[u8]) -> Result<Intent, IntentError> {
+    let mut fields = Fields::of(alloc, text)?;
+    // `kmodboot intent 1` and `words`
+    for _ in 0..4 {
+        fields.next();
+    }
+    let words = read_words(alloc, &mut fields)?;
+    let changes = read_changes(alloc, &mut fields)?;
+    Ok(Intent { words, changes })
+}
+
+/// The intent of a journal. A text is damaged exactly where no intent that is valid under these roots has it.
+pub fn read_intent(alloc: Global, text: &[u8], roots: &Roots) -> Result<Intent, IntentError>
+    ensures intent { IfOk result (λ intent. rule.IsJournal roots.now text.now intent) }
+{
+    let intent = read_loosely(alloc, text)?;
+    let valid = is_valid(alloc, roots, intent.changes.as_slice())?;
+    let spelled = write_intent(alloc, &intent)?;
+    if valid && spelled.as_slice() == text {
+        Ok(intent)
+    } else {
+        Err(IntentError::Damaged)
+    }
+}
