@@ -17,6 +17,3 @@ pub use laws::{
 pub use lose::has_few_effects;
 pub use sink::MemorySink;
 pub use world::MemoryWorld;
-
-#[cfg(test)]
-mod tests;
