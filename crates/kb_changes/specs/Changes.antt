@@ -18,7 +18,8 @@ use Rattle.kb_changes.specs.declared.change.RootName.TheVariants as root_name
 -- the root that a path is put below
 abbrev pub root_of : Roots → Path → RootName
 root_of roots path =
-    cond (is_under path roots.dkms) root_name.Dkms (cond (is_under path roots.src) root_name.Src (cond (is_under path roots.modules) root_name.Modules root_name.Boot))
+    cond (is_under path roots.dkms) root_name.Dkms
+    (cond (is_under path roots.src) root_name.Src (cond (is_under path roots.modules) root_name.Modules root_name.Boot))
 
 abbrev pub same_root : RootName → RootName → Bool
 same_root root_name.Dkms root_name.Dkms = true
@@ -35,7 +36,8 @@ nodes_below roots root puts = map (λ put. put.1) (filter (λ put. same_root (ro
 abbrev pub numbered_puts : Roots → List (Path × Node) → List (Path × Node) → List Change
 numbered_puts roots earlier [] = []
 numbered_puts roots earlier (put ∷ puts) =
-    Put (root_of roots put.0) (length (nodes_below roots (root_of roots put.0) earlier)) put.0 ∷ numbered_puts roots (earlier ++ put ∷ []) puts
+    Put (root_of roots put.0) (length (nodes_below roots (root_of roots put.0) earlier)) put.0
+    ∷ numbered_puts roots (earlier ++ put ∷ []) puts
 
 -- ---- the changes
 
@@ -51,7 +53,8 @@ scratches roots paths = map (λ path. child path (codes "build")) (filter (is_ve
 unfoldable pub changes_of : Roots → Patch → List Change
 changes_of roots patch =
     map Drop (drops_of patch)
-    ++ (map Wipe (patch.wipes ++ scratches roots (emptied_of roots patch)) ++ (map Dir (dirs_of roots patch) ++ (numbered_puts roots [] patch.puts ++ map DropDir (emptied_of roots patch))))
+    ++ (map Wipe (patch.wipes ++ scratches roots (emptied_of roots patch))
+    ++ (map Dir (dirs_of roots patch) ++ (numbered_puts roots [] patch.puts ++ map DropDir (emptied_of roots patch))))
 
 -- ---- what is staged
 
@@ -80,4 +83,5 @@ nodes_of roots patch = record {
 -- each of these nodes stands at its staged place
 abbrev pub HasStaged : Roots → Staged → Tree → Type 0
 HasStaged roots staged tree =
-    (root : RootName) (number : ℕ) (node : Node) → slice_get (staged_below staged root) number ≡ Some node → node_at tree (staged_path roots root number) ≡ Some node
+    (root : RootName) (number : ℕ) (node : Node) → slice_get (staged_below staged root) number ≡ Some node
+    → node_at tree (staged_path roots root number) ≡ Some node

@@ -74,7 +74,8 @@ pub record IsIndexing (roots : Roots) (patch : Patch) (request : Request) : Type
   pub kernel : List ℕ
   pub named : is_kernel kernel ≡ true
   pub asked : request ≡ depmod_request roots kernel
-  pub dropped : (path : Path) → is_listed path (index_paths roots kernel) ≡ true → (is_listed path patch.drops ≡ true) × (put_at path patch.puts ≡ None)
+  pub dropped : (path : Path) → is_listed path (index_paths roots kernel) ≡ true
+      → (is_listed path patch.drops ≡ true) × (put_at path patch.puts ≡ None)
 
 -- a child that may stand behind the changes: one that may change nothing, or depmod
 pub data IsFitRequest (roots : Roots) (patch : Patch) (request : Request) : Type 0 where

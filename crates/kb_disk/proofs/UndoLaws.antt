@@ -9,22 +9,22 @@ use Rattle.kb_world.specs.declared.tree.Node.{Node}
 use Rattle.kb_disk.specs.declared.disk.Undo.{Undo}
 use Rattle.kb_disk.specs.declared.disk.Undo.TheVariants as undo
 use Rattle.kb_disk.specs.Stored.{stored_from, passed}
-use Rattle.kb_disk.specs.Undo.{Now, undone, put_at, soft_at, moments_of}
+use Rattle.kb_disk.specs.Undo.{Now, undone, put_path, soft_at, moments_of}
 
 -- the moments with one change more are those before and that of the change
 pub pushed : (changes more : List Undo) (change : Undo) (before after : Now) → more ≡ changes ++ change ∷ [] → undone change after ≡ before
-    → stored_from more after ≡ passed (soft_at change before.soft after.soft) (put_at change) after.tree after.soft (stored_from changes before)
+    → stored_from more after ≡ passed (soft_at change before.soft after.soft) (put_path change) after.tree after.soft (stored_from changes before)
 pushed changes more change before after is back =
-    let past : moments_of (reverse more) after ≡ moments_of (reverse changes) before ++ record { tree = before.tree; soft = soft_at change before.soft after.soft; putting = put_at change } ∷ [] =
+    let past : moments_of (reverse more) after ≡ moments_of (reverse changes) before ++ record { tree = before.tree; soft = soft_at change before.soft after.soft; putting = put_path change } ∷ [] =
     ap (λ l. moments_of (reverse l) after) is ∙ ap (λ l. moments_of l after) (reverse-append changes (change ∷ []))
-    ∙ ap (λ (now : Now). moments_of (reverse changes) now ++ record { tree = now.tree; soft = soft_at change now.soft after.soft; putting = put_at change } ∷ []) back in
+    ∙ ap (λ (now : Now). moments_of (reverse changes) now ++ record { tree = now.tree; soft = soft_at change now.soft after.soft; putting = put_path change } ∷ []) back in
     λ i. record { tree = after.tree; history = record { soft = after.soft; past = past i } }
 
 -- the same, told by the tree after it, what is soft then, and what was soft meanwhile
 pub changed : (changes more : List Undo) (change : Undo) (during : List Area) (tree : Tree) (soft : List Area) (before after : Now) → more ≡ changes ++ change ∷ [] → undone change after ≡ before
-    → soft_at change before.soft after.soft ≡ during → after.tree ≡ tree → after.soft ≡ soft → stored_from more after ≡ passed during (put_at change) tree soft (stored_from changes before)
+    → soft_at change before.soft after.soft ≡ during → after.tree ≡ tree → after.soft ≡ soft → stored_from more after ≡ passed during (put_path change) tree soft (stored_from changes before)
 changed changes more change during tree soft before after is back meanwhile made left =
-    pushed changes more change before after is back ∙ (λ i. passed (meanwhile i) (put_at change) (made i) (left i) (stored_from changes before))
+    pushed changes more change before after is back ∙ (λ i. passed (meanwhile i) (put_path change) (made i) (left i) (stored_from changes before))
 
 at_edit : (path : Path) (at : Option Node) (tree : Tree) (q : Path) → node_at (edited path at tree) q ≡ cond (same_path q path) at (node_at tree q)
 at_edit path None tree q = node_at-remove tree path q

@@ -21,12 +21,12 @@ undone undo.Given now = record { tree = now.tree; soft = drop 1 now.soft }
 undone (undo.Settled areas) now = record { tree = now.tree; soft = areas }
 
 -- where a file was being put
-abbrev pub put_at : Undo → Option Path
-put_at (undo.Put path) = Some path
-put_at (undo.Was path at) = None
-put_at (undo.Moved from to at) = None
-put_at undo.Given = None
-put_at (undo.Settled areas) = None
+abbrev pub put_path : Undo → Option Path
+put_path (undo.Put path) = Some path
+put_path (undo.Was path at) = None
+put_path (undo.Moved from to at) = None
+put_path undo.Given = None
+put_path (undo.Settled areas) = None
 
 -- What was soft then, where this was before the change and that is after it: while a child is given an area, it is soft.
 abbrev pub soft_at : Undo → List Area → List Area → List Area
@@ -38,7 +38,7 @@ soft_at (undo.Settled areas) before after = before
 
 -- the moment of the change
 abbrev pub moment_of : Undo → Now → Moment
-moment_of change now = let before = undone change now in record { tree = before.tree; soft = soft_at change before.soft now.soft; putting = put_at change }
+moment_of change now = let before = undone change now in record { tree = before.tree; soft = soft_at change before.soft now.soft; putting = put_path change }
 
 -- the moments of these changes, of which the last comes first, told from what there is after them; the oldest first
 abbrev pub moments_of : List Undo → Now → List Moment
