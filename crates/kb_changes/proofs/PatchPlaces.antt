@@ -139,6 +139,35 @@ scratch_of roots (p ∷ paths) q e = by (is_version_dir roots p) e (λ later. sc
           | inr more ↦ behind_it (later more)
         ]
 
+-- a test that the scratch tree of a version among these passes
+pub any_scratch : (roots : Roots) (test : Path → Bool) (paths : List Path) (path : Path) → is_version_dir roots path ≡ true → is_listed path paths ≡ true → test (child path (codes "build")) ≡ true → list_any test (scratches roots paths) ≡ true
+any_scratch roots test [] path v listed h = absurd (untrue listed)
+any_scratch roots test (p ∷ paths) path v listed h = by (is_version_dir roots p) refl (either (same_path path p) (is_listed path paths) listed) (λ later. any_scratch roots test paths path v later h)
+  where
+    by : (b : Bool) → is_version_dir roots p ≡ b → (same_path path p ≡ true) ⊎ (is_listed path paths ≡ true) → (is_listed path paths ≡ true → list_any test (scratches roots paths) ≡ true)
+        → list_any test (map (λ x. child x (codes "build")) (cond b (p ∷ filter (is_version_dir roots) paths) (filter (is_version_dir roots) paths))) ≡ true
+    by true e (inl s) more = ap (λ b. b || list_any test (scratches roots paths)) (ap (λ x. test (child x (codes "build"))) (sym (same_path-true path p s)) ∙ h)
+    by false e (inl s) more = absurd (untrue (sym e ∙ ap (is_version_dir roots) (sym (same_path-true path p s)) ∙ v))
+    by true e (inr later) more = or_right (test (child p (codes "build"))) (list_any test (scratches roots paths)) (more later)
+    by false e (inr later) more = more later
+
+-- what is one of the scratch trees is a version's
+pub scratch_from : (roots : Roots) (paths : List Path) (q : Path) → is_listed q (scratches roots paths) ≡ true → (path : Path) × (is_listed path paths ≡ true) × (q ≡ child path (codes "build"))
+scratch_from roots [] q e = absurd (untrue e)
+scratch_from roots (p ∷ paths) q e = by (is_version_dir roots p) e (λ later. scratch_from roots paths q later)
+  where
+    behind_it : (path : Path) × (is_listed path paths ≡ true) × (q ≡ child path (codes "build")) → (path : Path) × (is_listed path (p ∷ paths) ≡ true) × (q ≡ child path (codes "build"))
+    behind_it found = (found.0, or_right (same_path found.0 p) (is_listed found.0 paths) found.1, found.2)
+
+    by : (b : Bool) → is_listed q (map (λ x. child x (codes "build")) (cond b (p ∷ filter (is_version_dir roots) paths) (filter (is_version_dir roots) paths))) ≡ true
+        → (is_listed q (scratches roots paths) ≡ true → (path : Path) × (is_listed path paths ≡ true) × (q ≡ child path (codes "build"))) → (path : Path) × (is_listed path (p ∷ paths) ≡ true) × (q ≡ child path (codes "build"))
+    by false e later = behind_it (later e)
+    by true e later =
+        elim (either (same_path q (child p (codes "build"))) (is_listed q (scratches roots paths)) e) [
+          | inl s ↦ (p, ap (λ b. b || is_listed p paths) (same_path-refl p), same_path-true q (child p (codes "build")) s)
+          | inr more ↦ behind_it (later more)
+        ]
+
 -- ---- roots
 
 pub listed_root : (roots : Roots) (path : Path) → is_listed path (written_roots roots) ≡ true → (root : RootName) × (path ≡ root_path roots root)

@@ -37,7 +37,7 @@ use Rattle.kb_changes.proofs.PatchGroups.{grouped, groups_in_order, drops_are, w
 use Rattle.kb_changes.proofs.PatchParents.{or_right, either, not_true, found-flat_map, nth_listed, rooted_at, directories-over, below-append, below-trans}
 use Rattle.kb_changes.proofs.PatchPuts.{root-under, staged_apart, open_no_private, count-most, count-grows, own_node, below-append-nodes}
 use Rattle.kb_changes.proofs.PatchDone.{self_listed, drops_listed}
-use Rattle.kb_changes.proofs.PatchPlaces.{under-trans, child-under, scratch_private, listed_root, found-filter}
+use Rattle.kb_changes.proofs.PatchPlaces.{any_scratch, scratch_from, under-trans, child-under, scratch_private, listed_root, found-filter}
 
 untrue : false ≡ true → ⊥
 untrue e = cc
@@ -173,35 +173,6 @@ kept_names roots =
 
 named_build : (directory path : Path) → not (bytes_eq (last_name path) (codes "build")) ≡ true → child directory (codes "build") ≡ path → ⊥
 named_build directory path other same = untrue (sym (ap (λ p. not (bytes_eq (last_name p) (codes "build"))) (sym same) ∙ ap (λ n. not (bytes_eq n (codes "build"))) (last-child directory (codes "build"))) ∙ other)
-
--- ---- scratch trees
-
-any_scratch : (roots : Roots) (test : Path → Bool) (paths : List Path) (path : Path) → is_version_dir roots path ≡ true → is_listed path paths ≡ true → test (child path (codes "build")) ≡ true → list_any test (scratches roots paths) ≡ true
-any_scratch roots test [] path v listed h = absurd (untrue listed)
-any_scratch roots test (p ∷ paths) path v listed h = by (is_version_dir roots p) refl (either (same_path path p) (is_listed path paths) listed) (λ later. any_scratch roots test paths path v later h)
-  where
-    by : (b : Bool) → is_version_dir roots p ≡ b → (same_path path p ≡ true) ⊎ (is_listed path paths ≡ true) → (is_listed path paths ≡ true → list_any test (scratches roots paths) ≡ true)
-        → list_any test (map (λ x. child x (codes "build")) (cond b (p ∷ filter (is_version_dir roots) paths) (filter (is_version_dir roots) paths))) ≡ true
-    by true e (inl s) more = ap (λ b. b || list_any test (scratches roots paths)) (ap (λ x. test (child x (codes "build"))) (sym (same_path-true path p s)) ∙ h)
-    by false e (inl s) more = absurd (untrue (sym e ∙ ap (is_version_dir roots) (sym (same_path-true path p s)) ∙ v))
-    by true e (inr later) more = or_right (test (child p (codes "build"))) (list_any test (scratches roots paths)) (more later)
-    by false e (inr later) more = more later
-
-scratch_from : (roots : Roots) (paths : List Path) (q : Path) → is_listed q (scratches roots paths) ≡ true → (path : Path) × (is_listed path paths ≡ true) × (q ≡ child path (codes "build"))
-scratch_from roots [] q e = absurd (untrue e)
-scratch_from roots (p ∷ paths) q e = by (is_version_dir roots p) e (λ later. scratch_from roots paths q later)
-  where
-    behind_it : (path : Path) × (is_listed path paths ≡ true) × (q ≡ child path (codes "build")) → (path : Path) × (is_listed path (p ∷ paths) ≡ true) × (q ≡ child path (codes "build"))
-    behind_it found = (found.0, or_right (same_path found.0 p) (is_listed found.0 paths) found.1, found.2)
-
-    by : (b : Bool) → is_listed q (map (λ x. child x (codes "build")) (cond b (p ∷ filter (is_version_dir roots) paths) (filter (is_version_dir roots) paths))) ≡ true
-        → (is_listed q (scratches roots paths) ≡ true → (path : Path) × (is_listed path paths ≡ true) × (q ≡ child path (codes "build"))) → (path : Path) × (is_listed path (p ∷ paths) ≡ true) × (q ≡ child path (codes "build"))
-    by false e later = behind_it (later e)
-    by true e later =
-        elim (either (same_path q (child p (codes "build"))) (is_listed q (scratches roots paths)) e) [
-          | inl s ↦ (p, ap (λ b. b || is_listed p paths) (same_path-refl p), same_path-true q (child p (codes "build")) s)
-          | inr more ↦ behind_it (later more)
-        ]
 
 -- ---- children
 
