@@ -21,7 +21,7 @@ pub struct Halt {
 pub enum Fate {
     /// It does its work.
     Passes,
-    /// It fails, and leaves all as it was.
+    /// It fails, and leaves the tree as it was.
     Fails,
     /// It is cut off, and leaves what the choice says.
     Halts(u64),
