@@ -2,9 +2,10 @@
 // and writers that halt.
 ghost use Rattle.std.specs.Prelude.{◌≤◌, IfOk};
 
+use crate::StdSink;
 use crate::pieces::{length_to_end, write_whole};
-use crate::{HostWorld, StdSink};
-use kb_world::{Kind, Path, Sink, SinkError, World, WorldError};
+use crate::tests::calls::Host;
+use kb_world::{Kind, Path, Sink, SinkError, WorldError};
 use std::alloc::Global;
 use std::fs::{OpenOptions, Permissions};
 use std::io::{ErrorKind, Read, Write};
@@ -12,6 +13,7 @@ use std::os::unix::fs::PermissionsExt;
 use std::test::Fail;
 use std::{env, fs, io, process};
 
+mod calls;
 mod children;
 mod files;
 mod settle;
@@ -39,7 +41,7 @@ pub fn below(alloc: Global, folder: &Path, rest: &str) -> Result<Path, Fail> {
 fn makes_a_directory(rt: HostRuntime) -> Result<(), Fail> {
     let alloc = rt.alloc();
     let folder = make_folder(rt, "makes_a_directory")?;
-    let mut world = HostWorld::new(rt);
+    let mut world = Host::new(rt);
     let path = below(alloc, &folder, "entry")?;
     assert_eq!(rt; world.look(alloc, &path), Ok(Kind::Absent));
     assert_eq!(rt; world.make_dir(alloc, &path), Ok(()));
@@ -55,7 +57,7 @@ fn makes_a_directory(rt: HostRuntime) -> Result<(), Fail> {
 fn reads_the_link_that_it_made(rt: HostRuntime) -> Result<(), Fail> {
     let alloc = rt.alloc();
     let folder = make_folder(rt, "reads_the_link_that_it_made")?;
-    let mut world = HostWorld::new(rt);
+    let mut world = Host::new(rt);
     let path = below(alloc, &folder, "entry")?;
     assert_eq!(rt;
         world.read_link(alloc, &path).err(),
@@ -84,7 +86,7 @@ fn reads_the_link_that_it_made(rt: HostRuntime) -> Result<(), Fail> {
 fn looks_at_files(rt: HostRuntime) -> Result<(), Fail> {
     let alloc = rt.alloc();
     let folder = make_folder(rt, "looks_at_files")?;
-    let mut world = HostWorld::new(rt);
+    let mut world = Host::new(rt);
     let path = below(alloc, &folder, "entry")?;
     let text = path.text(alloc)?;
     for (bytes, mode, exec) in [
@@ -116,7 +118,7 @@ fn counts_the_bytes_of_a_file_below_proc(rt: HostRuntime) -> Result<(), Fail> {
     assert!(rt; len > 0);
     let path = Path::parse(alloc, "/proc/version")?;
     let kind = Kind::File { len, exec: false };
-    assert_eq!(rt; HostWorld::new(rt).look(alloc, &path), Ok(kind));
+    assert_eq!(rt; Host::new(rt).look(alloc, &path), Ok(kind));
     Ok(())
 }
 
@@ -124,7 +126,7 @@ fn counts_the_bytes_of_a_file_below_proc(rt: HostRuntime) -> Result<(), Fail> {
 fn a_device_is_a_fault(rt: HostRuntime) -> Result<(), Fail> {
     let path = Path::parse(rt.alloc(), "/dev/null")?;
     assert_eq!(rt;
-        HostWorld::new(rt).look(rt.alloc(), &path),
+        Host::new(rt).look(rt.alloc(), &path),
         Err(WorldError::Failed)
     );
     Ok(())

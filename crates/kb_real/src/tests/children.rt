@@ -1,7 +1,7 @@
 // Real child programs.
-use crate::HostWorld;
+use crate::tests::calls::Host;
 use crate::tests::{below, make_folder, remove_folder};
-use kb_world::{Area, Path, Request, Sequence, Text, Texts, World, WorldError};
+use kb_world::{Area, Path, Request, Sequence, Text, Texts, WorldError};
 use std::alloc::Global;
 use std::fs;
 use std::process::Abort;
@@ -33,12 +33,7 @@ pub fn request(
 }
 
 /// The code of a line of the shell that was run in the directory.
-pub fn shell(
-    alloc: Global,
-    world: &mut HostWorld<HostRuntime>,
-    directory: &Path,
-    line: &str,
-) -> Result<u8, Fail> {
+pub fn shell(alloc: Global, world: &mut Host, directory: &Path, line: &str) -> Result<u8, Fail> {
     let request = request(alloc, directory, "sh", &["-c", line])?;
     Ok(world.run(alloc, &request)?.code)
 }
@@ -46,7 +41,7 @@ pub fn shell(
 fn run_lines(
     rt: &impl Abort,
     alloc: Global,
-    world: &mut HostWorld<HostRuntime>,
+    world: &mut Host,
     directory: &Path,
 ) -> Result<(), Fail> {
     for (line, code, out, err) in [
@@ -67,7 +62,7 @@ fn run_lines(
 #[test]
 fn tells_how_a_child_ended(rt: HostRuntime) -> Result<(), Fail> {
     let folder = make_folder(rt, "tells_how_a_child_ended")?;
-    run_lines(&rt, rt.alloc(), &mut HostWorld::new(rt), &folder)?;
+    run_lines(&rt, rt.alloc(), &mut Host::new(rt), &folder)?;
     remove_folder(rt, &folder)
 }
 
@@ -79,7 +74,7 @@ fn keeps_the_first_of_much_output(rt: HostRuntime) -> Result<(), Fail> {
     let line =
         "printf err >&2; head -c 10485760 /dev/zero >&2; printf out; head -c 10485760 /dev/zero";
     let request = request(alloc, &folder, "sh", &["-c", line])?;
-    let reply = HostWorld::new(rt).run(alloc, &request)?;
+    let reply = Host::new(rt).run(alloc, &request)?;
     assert_eq!(rt; reply.code, 0);
     assert_eq!(rt; reply.out.as_slice().len(), 4_194_304);
     assert!(rt; reply.out.as_slice().starts_with(b"out"));
@@ -99,7 +94,7 @@ fn a_child_that_cannot_be_started_is_a_fault(rt: HostRuntime) -> Result<(), Fail
         (&absent, "true"),
     ] {
         let request = request(alloc, directory, program, &[])?;
-        let reply = HostWorld::new(rt).run(alloc, &request);
+        let reply = Host::new(rt).run(alloc, &request);
         assert_eq!(rt; reply.err(), Some(WorldError::Failed), "{program}");
     }
     remove_folder(rt, &folder)
@@ -115,13 +110,13 @@ fn a_child_has_its_environment_and_directory(rt: HostRuntime) -> Result<(), Fail
             .env
             .push((Text::of(alloc, name)?, Text::of(alloc, value)?))?;
     }
-    let reply = HostWorld::new(rt).run(alloc, &request)?;
+    let reply = Host::new(rt).run(alloc, &request)?;
     assert_eq!(rt;
         reply.out.as_slice(),
         b"ONE=1\nPATH=/usr/sbin:/usr/bin:/sbin:/bin\nTWO=a b\n".as_slice()
     );
     request.program = Text::of(alloc, "pwd")?;
-    let reply = HostWorld::new(rt).run(alloc, &request)?;
+    let reply = Host::new(rt).run(alloc, &request)?;
     let real = fs::canonicalize(&rt, folder.text(alloc)?.as_str())?;
     let line = format!(in alloc; "{}\n", real.as_str())?;
     assert_eq!(rt; reply.out.as_slice(), line.as_bytes());

@@ -1,20 +1,15 @@
 // Files, links and directories of the real file system.
-use crate::HostWorld;
+use crate::tests::calls::Host;
 use crate::tests::children::shell;
 use crate::tests::{below, make_folder, remove_folder};
-use kb_world::{Kind, Path, World, WorldError};
+use kb_world::{Kind, Path, WorldError};
 use std::alloc::Global;
 use std::process::Abort;
 use std::test::Fail;
 
 const FAILED: Result<(), WorldError> = Err(WorldError::Failed);
 
-fn put_files(
-    rt: &impl Abort,
-    alloc: Global,
-    world: &mut HostWorld<HostRuntime>,
-    folder: &Path,
-) -> Result<(), Fail> {
+fn put_files(rt: &impl Abort, alloc: Global, world: &mut Host, folder: &Path) -> Result<(), Fail> {
     for (name, bytes, exec) in [("a", "", false), ("b", "hello", true)] {
         let path = below(alloc, folder, name)?;
         assert_eq!(rt; world.put(alloc, &path, bytes.as_bytes(), exec), Ok(()));
@@ -35,14 +30,14 @@ fn put_files(
 #[test]
 fn puts_files(rt: HostRuntime) -> Result<(), Fail> {
     let folder = make_folder(rt, "puts_files")?;
-    put_files(&rt, rt.alloc(), &mut HostWorld::new(rt), &folder)?;
+    put_files(&rt, rt.alloc(), &mut Host::new(rt), &folder)?;
     remove_folder(rt, &folder)
 }
 
 fn refuse_reads(
     rt: &impl Abort,
     alloc: Global,
-    world: &mut HostWorld<HostRuntime>,
+    world: &mut Host,
     folder: &Path,
 ) -> Result<(), Fail> {
     assert_eq!(rt;
@@ -78,16 +73,11 @@ fn refuse_reads(
 #[test]
 fn reads_files_and_lists_directories_alone(rt: HostRuntime) -> Result<(), Fail> {
     let folder = make_folder(rt, "reads_files_and_lists_directories_alone")?;
-    refuse_reads(&rt, rt.alloc(), &mut HostWorld::new(rt), &folder)?;
+    refuse_reads(&rt, rt.alloc(), &mut Host::new(rt), &folder)?;
     remove_folder(rt, &folder)
 }
 
-fn list_names(
-    rt: &impl Abort,
-    alloc: Global,
-    world: &mut HostWorld<HostRuntime>,
-    folder: &Path,
-) -> Result<(), Fail> {
+fn list_names(rt: &impl Abort, alloc: Global, world: &mut Host, folder: &Path) -> Result<(), Fail> {
     assert!(rt; world.list(alloc, folder)?.is_empty());
     assert_eq!(rt;
         shell(
@@ -116,17 +106,12 @@ fn list_names(
 #[test]
 fn lists_names_by_bytes(rt: HostRuntime) -> Result<(), Fail> {
     let folder = make_folder(rt, "lists_names_by_bytes")?;
-    list_names(&rt, rt.alloc(), &mut HostWorld::new(rt), &folder)?;
+    list_names(&rt, rt.alloc(), &mut Host::new(rt), &folder)?;
     remove_folder(rt, &folder)
 }
 
 // Each row is done in the directory as the rows before it left it.
-fn move_files(
-    rt: &impl Abort,
-    alloc: Global,
-    world: &mut HostWorld<HostRuntime>,
-    folder: &Path,
-) -> Result<(), Fail> {
+fn move_files(rt: &impl Abort, alloc: Global, world: &mut Host, folder: &Path) -> Result<(), Fail> {
     assert_eq!(rt;
         shell(
             alloc,
@@ -169,16 +154,11 @@ fn move_files(
 #[test]
 fn moves_files_and_links(rt: HostRuntime) -> Result<(), Fail> {
     let folder = make_folder(rt, "moves_files_and_links")?;
-    move_files(&rt, rt.alloc(), &mut HostWorld::new(rt), &folder)?;
+    move_files(&rt, rt.alloc(), &mut Host::new(rt), &folder)?;
     remove_folder(rt, &folder)
 }
 
-fn remove_all(
-    rt: &impl Abort,
-    alloc: Global,
-    world: &mut HostWorld<HostRuntime>,
-    folder: &Path,
-) -> Result<(), Fail> {
+fn remove_all(rt: &impl Abort, alloc: Global, world: &mut Host, folder: &Path) -> Result<(), Fail> {
     assert_eq!(rt;
         shell(
             alloc,
@@ -220,6 +200,6 @@ fn remove_all(
 #[test]
 fn takes_away_files_links_and_empty_directories(rt: HostRuntime) -> Result<(), Fail> {
     let folder = make_folder(rt, "takes_away_files_links_and_empty_directories")?;
-    remove_all(&rt, rt.alloc(), &mut HostWorld::new(rt), &folder)?;
+    remove_all(&rt, rt.alloc(), &mut Host::new(rt), &folder)?;
     remove_folder(rt, &folder)
 }

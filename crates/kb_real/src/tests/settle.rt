@@ -1,8 +1,8 @@
 // Areas of the real file system.
-use crate::HostWorld;
+use crate::tests::calls::Host;
 use crate::tests::children::shell;
 use crate::tests::{below, make_folder, remove_folder};
-use kb_world::{Area, Path, Text, Texts, World, WorldError};
+use kb_world::{Area, Path, Text, Texts, WorldError};
 use std::alloc::Global;
 use std::process::Abort;
 use std::test::Fail;
@@ -10,7 +10,7 @@ use std::test::Fail;
 fn settle_areas(
     rt: &impl Abort,
     alloc: Global,
-    world: &mut HostWorld<HostRuntime>,
+    world: &mut Host,
     folder: &Path,
 ) -> Result<(), Fail> {
     assert_eq!(rt;
@@ -55,6 +55,6 @@ fn settle_areas(
 #[test]
 fn settles_what_children_left(rt: HostRuntime) -> Result<(), Fail> {
     let folder = make_folder(rt, "settles_what_children_left")?;
-    settle_areas(&rt, rt.alloc(), &mut HostWorld::new(rt), &folder)?;
+    settle_areas(&rt, rt.alloc(), &mut Host::new(rt), &folder)?;
     remove_folder(rt, &folder)
 }
