@@ -90,7 +90,7 @@ pub fn print_journal_bytes(
     for i in 0..bytes.len() {
         changed[i] = bytes[i] ^ 1;
         if !is_damaged(alloc, roots, &changed)? {
-            read += 1;
+            read = read.saturating_add(1);
         }
         changed[i] = bytes[i];
     }
