@@ -1,6 +1,7 @@
 use Rattle.std.proofs.Common.{◌≡◌, ℕ, List, [], Some, IsTrue, refl, sym, subst, ◌∙◌, arith, vec_len}
 use Rattle.std.proofs.lemmas.Bool.{eqb-true}
 use Rattle.std.proofs.lemmas.List.{nil_from_length}
+use Rattle.kb_memory.specs.World.{tree_of}
 use Rattle.kb_world.specs.Path.{Path}
 use Rattle.kb_world.specs.Tree.{Tree, IsEmptyDir, node_at, is_dir, children}
 use Rattle.scenarios.proofs.edit.is_empty_dir.Goals as goal
@@ -17,5 +18,5 @@ returns c empty =
     let names = c.in_ok-list.field-0 in
     let none : vec_len names ≡ 0 = eqb-true (vec_len names) 0 (sym c.is_empty.ensures ∙ empty) in
     let listed = c.in_ok-list.ensures in
-    listed_empty c.args.world.now.nodes c.list.new.self.nodes c.args.path.now names.items listed.same.unchanged.tree (listed.names _ refl)
+    listed_empty (tree_of c.args.world.now) (tree_of c.list.new.self) c.args.path.now names.items listed.same.unchanged.tree (listed.names _ refl)
     (nil_from_length names.items (omega arith)) (sym c.if-not-is_dir.ensures)
