@@ -1,1 +1,4 @@
 pub mod Doing
+pub mod Finish
+pub mod Recover
+pub mod Txn
