@@ -1,18 +1,16 @@
 -- What is done aside leaves the store, the foreign tree, and the rest.
-use Rattle.std.proofs.Common.{◌≡◌, ◌⊎◌, ◌≤◌, Bool, true, false, cond, ◌&&◌, ◌||◌, not, List, [], ◌∷◌, ◌++◌, Option, Some, None, refl, sym, ap, ◌∙◌, subst, inl, inr, arith}
-use Rattle.std.specs.Prelude.{Result, Ok, Err, IsErrOf, IsTrue}
+use Rattle.std.proofs.Common.{◌≡◌, ◌⊎◌, Bool, true, false, cond, ◌&&◌, not, List, [], ◌∷◌, ◌++◌, Option, Some, None, refl, sym, ap, ◌∙◌, subst, inl, inr}
+use Rattle.std.specs.Prelude.{Result, Ok, Err, IsErrOf}
 use Rattle.std.specs.List.{list_any, AllByRecursion}
-use Rattle.std.specs.Cmp.{first_so, second_so}
+use Rattle.std.specs.Cmp.{first_so}
 use Rattle.std.proofs.lemmas.Bool.{true≢false}
 use Rattle.kb_world.specs.Path.{Path, is_under}
 use Rattle.kb_world.specs.Tree.{Tree, node_at, IsFormed}
 use Rattle.kb_world.specs.TreeLaws.{same_tree}
-use Rattle.kb_world.specs.Area.{IsLeft}
 use Rattle.kb_world.specs.Public.{intent_path, is_private, is_loose, is_public, public_tree, foreign_tree}
-use Rattle.kb_world.specs.Script.{Script}
-use Rattle.kb_world.specs.Crash.{Adds, History, LeftOf}
-use Rattle.kb_world.specs.State.{State, HasCause, Lasts, RanNone}
-use Rattle.kb_world.specs.Outcome.{Outcome, Action}
+use Rattle.kb_world.specs.Crash.{Adds}
+use Rattle.kb_world.specs.State.{State, HasCause, Lasts}
+use Rattle.kb_world.specs.Outcome.{Action}
 use Rattle.kb_world.specs.Does.{Answers}
 use Rattle.kb_world.specs.declared.child.Area.{Area}
 use Rattle.kb_world.specs.declared.tree.Node.{Node}
@@ -25,11 +23,10 @@ use Rattle.kb_world.proofs.DoesLaws.{cause_then, lasts_then, answers_since}
 use Rattle.kb_world.proofs.PathLaws.{under-self}
 use Rattle.kb_world.proofs.PublicLaws.{node_at-public_tree, node_at-foreign_tree}
 use Rattle.kb_changes.specs.Valid.{written_roots}
-use Rattle.kb_again.specs.Sparing.{reaches, counts, IsSparing, AreSparing}
+use Rattle.kb_again.specs.Sparing.{IsSparing, AreSparing}
 use Rattle.kb_machine.specs.Stands.{Rests, OpensOneOf}
-use Rattle.kb_machine.specs.Aside.{is_aside, IsSameBut, IsAsideArea, LeftAside, IsOneArea, IsOldOrAside, WorksAside}
-use Rattle.kb_world.specs.Does.{Does}
-use Rattle.kb_machine.specs.Across.{Survives, DoesAcrossCrashes}
+use Rattle.kb_machine.specs.Aside.{is_aside, IsSameBut, IsAsideArea, LeftAside, IsOneArea, WorksAside}
+use Rattle.kb_machine.specs.Across.{Survives, LeavesStanding, DoesAcrossCrashes}
 use Rattle.kb_machine.proofs.RestLaws.{opens-none, rests_from, rests_bare, rests_spares, spared_public, spared_journal}
 
 -- below a root that is written
@@ -160,3 +157,42 @@ does_aside roots action old mid new before after value result formed w ran lasts
         end = one.end;
       };
 }
+
+-- it isn't a refusal
+abbrev pub IsUnrefused : Stop → Type 0
+IsUnrefused (Refused why) = ⊥
+IsUnrefused Fault = Unit {0}
+IsUnrefused NoMemory = Unit {0}
+
+abbrev stopped : {T : Type 0} → Stop → Result T Stop
+stopped stop = Err stop
+
+-- what was done aside stopped, and so does the action
+pub aside_stops : {T : Type 0} (roots : Roots) (action : Action) (old new : State) (before after : Report) (stop : Stop) → IsUnrefused stop
+    → ((tree : Tree) → old.tree ≡ Some tree → IsFormed tree) → WorksAside roots old new → Lasts old new → HasCause Fault old new (stopped {T = T} stop)
+    → DoesAcrossCrashes roots action {T = Unit {0}} old new before after (Err stop)
+aside_stops {T} roots action old new before after stop unrefused formed w lasts cause = record {
+  does = record {
+    answers = λ tree told rooted. none stop unrefused tree;
+    lasts = lasts;
+    cause = record { later = cause.later; rose = λ failed. cause.rose (back failed); steady = cause.steady; never = λ told is failed. cause.never told is (back failed) };
+  };
+  survives = λ tree told rooted rests. record {
+    each_moment = aside_adds roots old new tree told (formed tree told) rests w (action (public_tree roots tree) (foreign_tree roots tree)).after;
+    end = left stop unrefused tree (aside_rests roots old new tree told (formed tree told) rests w);
+  };
+}
+  where
+    back : IsErrOf (stopped {T = Unit {0}} stop) Fault → IsErrOf (stopped {T = T} stop) Fault
+    back failed = let is : stop ≡ Fault = cc in ap (λ s. stopped {T = T} s) is
+
+    none : (s : Stop) → IsUnrefused s → (tree : Tree) → Answers {T = Unit {0}} roots (public_tree roots tree) (action (public_tree roots tree) (foreign_tree roots tree)) (Err s) old new before after
+    none (Refused why) u tree = absurd u
+    none Fault u tree = tt
+    none NoMemory u tree = tt
+
+    left : (s : Stop) → IsUnrefused s → (tree : Tree) → Rests roots (public_tree roots tree) new
+        → LeavesStanding {T = Unit {0}} roots (public_tree roots tree) (action (public_tree roots tree) (foreign_tree roots tree)).after (Err s) new
+    left (Refused why) u tree rests = absurd u
+    left Fault u tree rests = (public_tree roots tree, inl refl, rests.stands)
+    left NoMemory u tree rests = (public_tree roots tree, inl refl, rests.stands)

@@ -1,16 +1,16 @@
 -- What is done aside, one call after another, and a child that has an area aside.
-use Rattle.std.proofs.Common.{◌≡◌, ◌⊎◌, Bool, true, false, cond, ◌&&◌, ◌||◌, not, List, [], ◌∷◌, ◌++◌, map, Option, Some, None, is_some, refl, sym, ap, ◌∙◌, subst, inl, inr}
-use Rattle.std.specs.Prelude.{Result, Ok, Err, IsErrOf, OnOk, OnErr}
-use Rattle.std.specs.List.{list_any, AllByRecursion}
-use Rattle.std.specs.Cmp.{first_so, second_so}
-use Rattle.kb_world.specs.Path.{Path, parent}
-use Rattle.kb_world.specs.Tree.{Tree, node_at, edited, is_dir, IsFormed}
-use Rattle.kb_world.specs.TreeLaws.{same_path, same_path-true, same_path-refl, with_node-apart, remove-apart}
+use Rattle.std.proofs.Common.{◌≡◌, Bool, true, false, cond, ◌&&◌, ◌||◌, not, List, [], ◌∷◌, ◌++◌, map, Option, Some, None, refl, sym, ap, ◌∙◌, subst, inl, inr}
+use Rattle.std.specs.Prelude.{Result, Ok, Err}
+use Rattle.std.specs.List.{AllByRecursion}
+use Rattle.std.specs.Cmp.{first_so}
+use Rattle.kb_world.specs.Path.{Path}
+use Rattle.kb_world.specs.Tree.{Tree, node_at, edited, is_dir}
+use Rattle.kb_world.specs.TreeLaws.{with_node-apart, remove-apart}
 use Rattle.kb_world.specs.Area.{holds, lets_differ, is_soft_at, IsLeft}
-use Rattle.kb_world.specs.Crash.{Adds, History, LeftOf}
+use Rattle.kb_world.specs.Crash.{LeftOf}
 use Rattle.kb_world.specs.View.{view_of}
 use Rattle.kb_world.specs.Script.{Script, answer_in, tree_after, after_edits, with_edit, can_edit, edit_of}
-use Rattle.kb_world.specs.State.{State, HasCause, Lasts, Runs, EndsAs, IsReplied, IsCutOff}
+use Rattle.kb_world.specs.State.{State, Runs, EndsAs, IsReplied}
 use Rattle.kb_world.specs.declared.tree.Edit.{Edit}
 use Rattle.kb_world.specs.declared.tree.Node.{Node}
 use Rattle.kb_world.specs.declared.child.Area.{Area}
@@ -21,10 +21,9 @@ use Rattle.kb_world.specs.declared.roots.Roots.{Roots}
 use Rattle.kb_world.specs.declared.world.WorldError.{WorldError}
 use Rattle.kb_world.specs.declared.world.WorldError.TheVariants.{Failed, NoMemory}
 use Rattle.kb_world.proofs.CrashLaws.{adds_then, adds_wider, adds_none}
-use Rattle.kb_changes.specs.Valid.{is_kept_out}
 use Rattle.kb_again.specs.Sparing.{reaches}
 use Rattle.kb_machine.specs.Aside.{is_aside, IsSameBut, IsAsideArea, LeftAside, IsOneArea, IsOldOrAside, WorksAside}
-use Rattle.kb_machine.proofs.RestLaws.{Lets, some_area, lets-reaches}
+use Rattle.kb_machine.proofs.RestLaws.{some_area, lets-reaches}
 
 -- ---- one of these areas
 

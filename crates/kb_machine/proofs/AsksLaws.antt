@@ -1,14 +1,13 @@
 -- A child that may change nothing leaves a world at rest.
-use Rattle.std.proofs.Common.{◌≡◌, ◌⊎◌, false, true, List, [], ◌∷◌, ◌++◌, Option, Some, None, refl, sym, ap, ◌∙◌, subst, inl, inr}
-use Rattle.std.specs.Prelude.{Result, Ok, Err}
+use Rattle.std.proofs.Common.{◌≡◌, ◌⊎◌, false, List, ◌∷◌, Option, Some, None, refl, sym, ap, ◌∙◌, subst, inl, inr}
+use Rattle.std.specs.Prelude.{Result, Ok}
 use Rattle.std.proofs.lemmas.Bool.{true≢false}
 use Rattle.kb_world.specs.Path.{Path}
 use Rattle.kb_world.specs.Tree.{Tree}
-use Rattle.kb_world.specs.Area.{IsLeft}
 use Rattle.kb_world.specs.Public.{public_tree, foreign_tree}
 use Rattle.kb_world.specs.View.{is_own}
 use Rattle.kb_world.specs.Layout.{united}
-use Rattle.kb_world.specs.Script.{Script, answer, answer_in}
+use Rattle.kb_world.specs.Script.{answer, answer_in}
 use Rattle.kb_world.specs.Crash.{LeftOf, Adds}
 use Rattle.kb_world.specs.State.{State}
 use Rattle.kb_world.specs.Outcome.{Outcome, Action, ran_child, joined, asks}
@@ -20,7 +19,6 @@ use Rattle.kb_world.specs.declared.child.Reply.{Reply}
 use Rattle.kb_world.specs.declared.roots.Roots.{Roots}
 use Rattle.kb_world.specs.declared.job.Report.{Report}
 use Rattle.kb_world.specs.declared.stop.Stop.{Stop}
-use Rattle.kb_world.specs.declared.stop.Stop.TheVariants.{Refused, Fault, NoMemory}
 use Rattle.kb_world.proofs.ThenLaws as low
 use Rattle.kb_world.proofs.LayoutLaws.{view-whole}
 use Rattle.kb_world.proofs.CrashLaws.{adds_then, adds_wider}

@@ -1,13 +1,13 @@
 -- An action that is one transaction.
-use Rattle.std.proofs.Common.{◌≡◌, ◌⊎◌, ℕ, List, [], ◌∷◌, ◌++◌, Option, Some, None, is_some, cond, refl, sym, ap, ◌∙◌, subst, inl, inr}
-use Rattle.std.specs.Prelude.{Result, Ok, Err, IsErrOf}
-use Rattle.kb_world.specs.Tree.{Tree, node_at}
-use Rattle.kb_world.specs.Public.{intent_path, public_tree, foreign_tree}
+use Rattle.std.proofs.Common.{◌≡◌, ◌⊎◌, ℕ, List, [], ◌∷◌, ◌++◌, Some, None, refl, sym, ap, ◌∙◌, subst, inl, inr}
+use Rattle.std.specs.Prelude.{Result, Ok, Err}
+use Rattle.kb_world.specs.Tree.{Tree}
+use Rattle.kb_world.specs.Public.{public_tree, foreign_tree}
 use Rattle.kb_world.specs.Script.{Script}
-use Rattle.kb_world.specs.Crash.{Adds, History, IsImageOfOne}
-use Rattle.kb_world.specs.State.{State, HasCause}
+use Rattle.kb_world.specs.Crash.{Adds, History}
+use Rattle.kb_world.specs.State.{State}
 use Rattle.kb_world.specs.Outcome.{Outcome, Action}
-use Rattle.kb_world.specs.Does.{Answers, CameAbout}
+use Rattle.kb_world.specs.Does.{CameAbout}
 use Rattle.kb_world.specs.declared.child.Reply.{Reply}
 use Rattle.kb_world.specs.declared.roots.Roots.{Roots}
 use Rattle.kb_world.specs.declared.job.Report.{Report}
@@ -18,6 +18,7 @@ use Rattle.kb_world.proofs.DoesLaws.{cause_other}
 use Rattle.kb_machine.specs.Stands.{Rests, Stands, OpensOneOf, StandsOneOf}
 use Rattle.kb_machine.specs.Commits.{TurnsOver, Transacted, Commits, CommitLeaves, CommitSurvives, IsCommitted}
 use Rattle.kb_machine.specs.Across.{Survives, LeavesStanding, DoesAcrossCrashes, SaysSo}
+use Rattle.kb_machine.proofs.AsideLaws.{IsUnrefused}
 use Rattle.kb_machine.proofs.RestLaws.{opens-none}
 
 -- at each moment of a transaction a crash leaves one of its two stores
@@ -27,12 +28,6 @@ turned_adds roots script first second old new t = adds_wider _ (OpensOneOf roots
 
 abbrev stopped : Stop → Result (Unit {0}) Stop
 stopped stop = Err stop
-
--- it isn't a refusal
-abbrev IsUnrefused : Stop → Type 0
-IsUnrefused (Refused why) = ⊥
-IsUnrefused Fault = Unit {0}
-IsUnrefused NoMemory = Unit {0}
 
 one_of_two : (roots : Roots) (first second : Tree) (new : State) → Stands roots first new ⊎ Stands roots second new → StandsOneOf roots (first ∷ second ∷ []) new
 one_of_two roots first second new (inl one) = (first, inl refl, one)
@@ -103,4 +98,24 @@ does_uncommitted roots action made line texts old new before after NoMemory says
     cause = cause_other old new (Err NoMemory) (Err NoMemory) c.cause (λ failed. let impossible : stopped NoMemory ≡ stopped Fault = failed in cc);
   };
   survives = λ tree told rooted rests. survived roots action made line texts old new tree (says tree told rooted) rests NoMemory tt (c.survives tree told rests);
+}
+
+-- it came about, and then memory ran out for what is said of it
+pub does_untold : (roots : Roots) (action : Action) (made : Tree → Transacted) (line : List ℕ) (texts : List Reply → List ℕ) (old new : State) (before after : Report) (replies : List Reply)
+    → ((tree : Tree) → old.tree ≡ Some tree → old.roots ≡ roots → SaysSo roots action made line texts tree)
+    → Commits roots made old new (Ok replies)
+    → DoesAcrossCrashes roots action {T = Unit {0}} old new before after (Err NoMemory)
+does_untold roots action made line texts old new before after replies says c = record {
+  does = record {
+    answers = λ tree told rooted. tt;
+    lasts = c.lasts;
+    cause = cause_other old new (Ok replies) (Err NoMemory) c.cause (λ failed. let impossible : stopped NoMemory ≡ stopped Fault = failed in cc);
+  };
+  survives = λ tree told rooted rests.
+      let store = public_tree roots tree in
+      let s = c.survives tree told rests in
+      subst (λ (outcome : Outcome). Survives {T = Unit {0}} roots store outcome old new (Err NoMemory)) (sym (says tree told rooted).says) (record {
+        each_moment = turned_adds roots old.script store _ old.history new.history s.turns;
+        end = (public_tree roots (made tree).tree, inr (inl refl), s.leaves.stands);
+      });
 }

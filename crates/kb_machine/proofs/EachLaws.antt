@@ -1,13 +1,11 @@
 -- An action for each item: what leads on.
-use Rattle.std.proofs.Common.{◌≡◌, ◌⊎◌, ℕ, ◌+◌, ◌<◌, List, [], ◌∷◌, ◌++◌, length, drop, get_or, suc, zero, Option, Some, None, refl, sym, ap, ◌∙◌, subst, inl, inr, arith}
+use Rattle.std.proofs.Common.{◌≡◌, ℕ, ◌+◌, ◌<◌, List, [], ◌∷◌, ◌++◌, length, drop, get_or, suc, zero, Option, Some, None, refl, sym, ap, ◌∙◌, subst, inl, inr, arith}
 use Rattle.std.proofs.lemmas.List.{append-nil}
-use Rattle.std.specs.Prelude.{Result, Ok, Err, IsErrOf}
+use Rattle.std.specs.Prelude.{Result, Ok, Err}
 use Rattle.kb_world.specs.Tree.{Tree}
 use Rattle.kb_world.specs.Public.{public_tree, foreign_tree}
-use Rattle.kb_world.specs.Crash.{Adds}
-use Rattle.kb_world.specs.State.{State, HasCause}
-use Rattle.kb_world.specs.Script.{Script}
-use Rattle.kb_world.specs.Outcome.{Outcome, Action, last_of, print, joined, go_on, ◌then◌}
+use Rattle.kb_world.specs.State.{State}
+use Rattle.kb_world.specs.Outcome.{Outcome, Action, last_of, print, go_on, ◌then◌}
 use Rattle.kb_world.specs.Does.{CameAbout, Answers}
 use Rattle.kb_world.specs.declared.job.Report.{Report}
 use Rattle.kb_world.specs.declared.roots.Roots.{Roots}
@@ -16,10 +14,10 @@ use Rattle.kb_world.specs.declared.stop.Stop.{Stop}
 use Rattle.kb_world.specs.declared.stop.Stop.TheVariants.{Refused, Fault, NoMemory}
 use Rattle.kb_world.proofs.CrashLaws.{adds_wider, adds_none}
 use Rattle.kb_world.proofs.DoesLaws.{no_cause}
-use Rattle.kb_machine.specs.Stands.{Rests, Stands, IsOneOf, OpensOneOf, StandsOneOf}
+use Rattle.kb_machine.specs.Stands.{Rests, IsOneOf, OpensOneOf}
 use Rattle.kb_machine.specs.Across.{Survives, LeavesStanding, DoesAcrossCrashes}
 use Rattle.kb_machine.proofs.ThenLaws.{does_then}
-use Rattle.kb_machine.specs.Each.{no_action, each, Leads}
+use Rattle.kb_machine.specs.Each.{each, Leads}
 
 -- ---- texts alone
 

@@ -4,6 +4,8 @@ pub mod AsksLaws
 pub mod CommitLaws
 pub mod EachLaws
 pub mod GatherLaws
+pub mod LookLaws
 pub mod RestLaws
 pub mod ThenLaws
+pub mod TransactLaws
 pub mod WorksLaws

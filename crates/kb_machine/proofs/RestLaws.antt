@@ -1,12 +1,10 @@
 -- What a crash leaves where no soft area reaches what is public.
-use Rattle.std.proofs.Common.{◌≡◌, ◌⊎◌, ℕ, ◌+◌, Bool, true, false, cond, ◌&&◌, ◌||◌, not, List, [], ◌∷◌, ◌++◌, length, drop, nat_eq, Option, Some, None, is_some, refl, sym, ap, ◌∙◌, subst, inl, inr, arith, length-append}
-use Rattle.std.specs.Prelude.{codes, bytes_eq}
-use Rattle.std.specs.List.{list_any, list_all, starts_with, AllByRecursion}
+use Rattle.std.proofs.Common.{◌≡◌, ◌⊎◌, ℕ, ◌+◌, Bool, true, false, cond, ◌&&◌, ◌||◌, not, List, [], ◌∷◌, length, drop, nat_eq, Option, Some, None, refl, sym, ap, ◌∙◌, subst, inl, inr, arith, length-append}
+use Rattle.std.specs.List.{list_any, AllByRecursion}
 use Rattle.std.specs.Cmp.{first_so, second_so}
-use Rattle.std.specs.Cmp.Lexicographic.{pointwise, bytes_decides, lists_equiv, nat_list_eq_equiv}
-use Rattle.std.proofs.lemmas.Bool.{cases_Bool, true≢false, and_cases}
+use Rattle.std.proofs.lemmas.Bool.{cases_Bool, true≢false}
 use Rattle.kb_world.specs.Path.{Path, is_under}
-use Rattle.kb_world.specs.Tree.{Tree, node_at, is_dir, name_in, sole, IsFormed}
+use Rattle.kb_world.specs.Tree.{Tree, node_at, is_dir, sole, IsFormed}
 use Rattle.kb_world.specs.TreeLaws.{same_tree}
 use Rattle.kb_world.specs.Area.{is_named, lets_differ, is_soft_at, IsLeft}
 use Rattle.kb_world.specs.Public.{intent_path, staging_path, is_private, is_loose, is_public, public_tree}
@@ -21,9 +19,9 @@ use Rattle.kb_world.proofs.PathLaws.{under-self, under-split}
 use Rattle.kb_world.proofs.PublicLaws.{node_at-public_tree}
 use Rattle.kb_machine.specs.Opens.{IsReady, at_rest, recovers, Opens, own_areas}
 use Rattle.kb_changes.specs.declared.change.Intent.{Intent}
-use Rattle.kb_changes.specs.Valid.{written_roots, is_initrd, is_initrd_name, is_kept_out, kept_out_paths}
+use Rattle.kb_changes.specs.Valid.{written_roots, is_initrd, is_initrd_name, is_kept_out}
 use Rattle.kb_again.specs.Sparing.{reaches, is_list_of_names, counts, IsSparing, AreSparing}
-use Rattle.kb_machine.specs.Stands.{Stands, Rests}
+use Rattle.kb_machine.specs.Stands.{Rests}
 use Rattle.kb_world.specs.declared.tree.Node.TheVariants as node
 
 -- below a root that is written

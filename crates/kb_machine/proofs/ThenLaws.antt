@@ -1,12 +1,11 @@
 -- How actions go on from one another, crashes and all.
-use Rattle.std.proofs.Common.{◌≡◌, ◌⊎◌, List, [], ◌∷◌, ◌++◌, Option, Some, None, refl, sym, ap, ◌∙◌, subst, inl, inr}
+use Rattle.std.proofs.Common.{◌≡◌, List, [], ◌∷◌, ◌++◌, sym, ◌∙◌, subst, inl, inr}
 use Rattle.std.specs.Prelude.{Result, Ok, Err}
 use Rattle.kb_world.specs.Tree.{Tree}
 use Rattle.kb_world.specs.Script.{Script}
-use Rattle.kb_world.specs.Crash.{Adds, History}
 use Rattle.kb_world.specs.State.{State}
 use Rattle.kb_world.specs.Public.{public_tree, foreign_tree}
-use Rattle.kb_world.specs.Outcome.{Outcome, Action, last_of, joined, go_on, ◌then◌}
+use Rattle.kb_world.specs.Outcome.{Outcome, Action, last_of, joined, ◌then◌}
 use Rattle.kb_world.specs.declared.roots.Roots.{Roots}
 use Rattle.kb_world.specs.declared.job.Report.{Report}
 use Rattle.kb_world.specs.declared.stop.Stop.{Stop}

@@ -1,25 +1,23 @@
 -- An action that goes on from work aside.
-use Rattle.std.proofs.Common.{◌≡◌, ◌⊎◌, List, [], ◌∷◌, ◌++◌, Option, Some, None, refl, sym, ap, ◌∙◌, subst, inl, inr, append_assoc}
+use Rattle.std.proofs.Common.{◌≡◌, [], ◌∷◌, ◌++◌, Option, Some, None, refl, sym, ap, ◌∙◌, subst, inl, append_assoc}
 use Rattle.std.proofs.lemmas.List.{append-nil}
-use Rattle.std.specs.Prelude.{ℕ, Result, Ok, Err, IsErrOf}
+use Rattle.std.specs.Prelude.{Result, Ok, Err, IsErrOf}
 use Rattle.kb_world.specs.Tree.{Tree, IsFormed}
 use Rattle.kb_world.specs.Public.{public_tree, foreign_tree}
 use Rattle.kb_world.specs.Crash.{Adds}
-use Rattle.kb_world.specs.State.{State, HasCause, Lasts}
+use Rattle.kb_world.specs.State.{State}
 use Rattle.kb_world.specs.Outcome.{Outcome, Action, last_of, joined}
 use Rattle.kb_world.specs.Does.{CameAbout, Answers}
-use Rattle.kb_world.specs.declared.child.Request.{Request}
 use Rattle.kb_world.specs.declared.roots.Roots.{Roots}
 use Rattle.kb_world.specs.declared.job.Report.{Report}
 use Rattle.kb_world.specs.declared.refusal.Refusal.{Refusal}
 use Rattle.kb_world.specs.declared.stop.Stop.{Stop}
 use Rattle.kb_world.specs.declared.stop.Stop.TheVariants.{Refused, Fault, NoMemory}
 use Rattle.kb_world.proofs.CrashLaws.{adds_then}
-use Rattle.kb_world.proofs.DoesLaws.{cause_then, cause_other, lasts_then}
-use Rattle.kb_machine.specs.Stands.{Rests, Stands, OpensOneOf, StandsOneOf}
-use Rattle.kb_machine.specs.Aside.{WorksAside}
+use Rattle.kb_world.proofs.DoesLaws.{cause_then, lasts_then}
+use Rattle.kb_machine.specs.Stands.{Rests, OpensOneOf}
 use Rattle.kb_machine.specs.Across.{Survives, LeavesStanding, DoesAcrossCrashes}
-use Rattle.kb_machine.specs.Works.{Work, work_only, by_result, works, IsWorked, WorkAnswers, Works}
+use Rattle.kb_machine.specs.Works.{Work, work_only, by_result, works, IsWorked, Works}
 use Rattle.kb_machine.proofs.AsideLaws.{aside_public, aside_foreign, aside_rests, aside_adds}
 
 came_then : (roots : Roots) (store : Tree) (first second : Outcome) (due : Option Refusal) (old mid new : State) (before between after : Report) → first.after ≡ []

@@ -1,5 +1,5 @@
 -- What an action does where a crash may come: each of its stores is whole. This project's own.
-use Rattle.std.specs.Prelude.{◌≡◌, ℕ, List, [], ◌∷◌, Option, Some, None, Result, Ok, Err}
+use Rattle.std.specs.Prelude.{◌≡◌, ℕ, List, [], ◌∷◌, None, Result, Ok, Err}
 use Rattle.std.specs.Option.{ForSome}
 use Rattle.kb_world.specs.Tree.{Tree}
 use Rattle.kb_world.specs.Public.{public_tree, foreign_tree}

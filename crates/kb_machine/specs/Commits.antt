@@ -1,5 +1,5 @@
 -- What a transaction does, whatever it changes. This project's own.
-use Rattle.std.specs.Prelude.{◌≡◌, ◌⊎◌, not, List, [], ◌∷◌, ◌++◌, Option, Some, None, Result, Ok, Err, IfOk, IsErrOf}
+use Rattle.std.specs.Prelude.{◌≡◌, ◌⊎◌, not, List, ◌++◌, Some, None, Result, Ok, Err, IfOk, IsErrOf}
 use Rattle.std.specs.Option.{ForSome}
 use Rattle.std.specs.FinMap.{retain_keys}
 use Rattle.kb_world.specs.Tree.{Tree, node_at}

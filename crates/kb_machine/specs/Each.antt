@@ -1,6 +1,6 @@
 -- How parts of an action are put together: nothing, a part where a test holds, one for each item, and one behind which it
 -- goes on though it was refused. This project's own.
-use Rattle.std.specs.Prelude.{ℕ, Bool, cond, List, [], ◌∷◌, Option, Result}
+use Rattle.std.specs.Prelude.{Bool, cond, List, [], ◌∷◌, Option, Result}
 use Rattle.kb_world.specs.Tree.{Tree}
 use Rattle.kb_world.specs.State.{State}
 use Rattle.kb_world.specs.Layout.{united}

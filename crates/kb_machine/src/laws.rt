@@ -1,12 +1,14 @@
 // The laws, each the contract of a function that does nothing.
-ghost use Rattle.std.specs.Prelude.{◌≡◌, ◌<◌, ◌+◌, [], ◌++◌, List, ℕ, length, drop, get_or, false, Ok, Err, Result, Some, Option};
-ghost use Rattle.kb_world.specs.Outcome.{Action, asks, print, ◌then◌};
+ghost use Rattle.std.specs.Prelude.{◌≡◌, ◌⊎◌, ◌<◌, ◌+◌, [], ◌∷◌, ◌++◌, List, ℕ, length, drop, flat_map, get_or, false, true, Ok, Err, Result, Some, Option};
+ghost use Rattle.kb_world.specs.Outcome.{Action, asks, print, transaction, unless, warn, ◌then◌};
 ghost use Rattle.kb_world.specs.Path.{Path};
-ghost use Rattle.kb_world.specs.Public.{intent_path, public_tree};
+ghost use Rattle.kb_world.specs.Public.{intent_path, public_tree, foreign_tree};
+ghost use Rattle.kb_world.specs.Script.{Script};
 ghost use Rattle.kb_world.specs.State.{State, HasCause, Lasts, Runs};
-ghost use Rattle.kb_world.specs.Tree.{Tree, node_at, IsFormed};
+ghost use Rattle.kb_world.specs.Tree.{Tree, node_at, is_dir, IsFormed};
 ghost use Rattle.kb_world.specs.View.{is_own};
-ghost use Rattle.kb_world.specs.Does.{Asks};
+ghost use Rattle.kb_world.specs.Does.{Asks, Decides};
+ghost use Rattle.kb_world.specs.declared.child.Area.TheVariants as areas;
 ghost use Rattle.kb_world.specs.declared.child.Reply.{Reply};
 ghost use Rattle.kb_world.specs.declared.child.Request.{Request};
 ghost use Rattle.kb_world.specs.declared.job.Report.{Report};
@@ -16,10 +18,14 @@ ghost use Rattle.kb_world.specs.declared.roots.Roots.{Roots};
 ghost use Rattle.kb_world.specs.declared.stop.Stop.{Stop};
 ghost use Rattle.kb_world.specs.declared.stop.Stop.TheVariants.{Refused, Fault, NoMemory};
 ghost use Rattle.kb_world.specs.declared.world.WorldError.{WorldError};
+ghost use Rattle.kb_changes.specs.Change.{done};
+ghost use Rattle.kb_changes.specs.Groups.{runs_in};
+ghost use Rattle.kb_changes.specs.declared.change.Change.{Change};
+ghost use Rattle.kb_changes.specs.declared.change.Change.TheVariants.{Run};
 ghost use Rattle.kb_again.specs.Sparing.{AreSparing};
 ghost use Rattle.kb_machine.specs.Across.{DoesAcrossCrashes, SaysSo};
 ghost use Rattle.kb_machine.specs.Aside.{IsAsideArea, WorksAside};
-ghost use Rattle.kb_machine.specs.Commits.{Transacted, Commits};
+ghost use Rattle.kb_machine.specs.Commits.{Transacted, Commits, transacted};
 ghost use Rattle.kb_machine.specs.Each.{each, gathers, Leads};
 ghost use Rattle.kb_machine.specs.Stands.{Rests};
 ghost use Rattle.kb_machine.specs.Works.{Work, works, Works};
@@ -60,14 +66,19 @@ pub fn a_refusal_is_gathered()
         → DoesAcrossCrashes roots (gathers part next) old new before after result }
 {}
 
-/// An action behind work that was done aside, without a child, is that action.
+/// An action behind work that was done aside, without a child, is that action; where that stopped the action stops.
 pub fn what_is_aside_is_no_action()
-    ensures { (roots : Roots) (action : Action) (old mid new : State) (before after : Report) (result aside : Result (Unit {0}) Stop) → aside ≡ Ok tt
+    ensures goes_on { (roots : Roots) (action : Action) (old mid new : State) (before after : Report) (result aside : Result (Unit {0}) Stop) → aside ≡ Ok tt
         → ((tree : Tree) → old.tree ≡ Some tree → IsFormed tree) → WorksAside roots old mid → mid.ran ≡ old.ran → Lasts old mid → HasCause Fault old mid aside
         → DoesAcrossCrashes roots action mid new before after result → DoesAcrossCrashes roots action old new before after result }
+    ensures stopped { (roots : Roots) (action : Action) (old new : State) (before after : Report) (result aside : Result (Unit {0}) Stop)
+        → (result ≡ Err Fault) ⊎ (result ≡ Err NoMemory) → aside ≡ result
+        → ((tree : Tree) → old.tree ≡ Some tree → IsFormed tree) → WorksAside roots old new → Lasts old new → HasCause Fault old new aside
+        → DoesAcrossCrashes roots action old new before after result }
 {}
 
-/// A transaction does the action that says so, and one that stopped is among its stores.
+/// A transaction does the action that says so; one that stopped is among its stores, and so is one behind which memory
+/// ran out for what is said of it.
 pub fn an_action_is_one_transaction()
     ensures done { (roots : Roots) (action : Action) (made : Tree → Transacted) (line : List ℕ) (texts : List Reply → List ℕ) (old new : State) (before after : Report) (replies : List Reply) (result : Result (Unit {0}) Stop)
         → result ≡ Ok tt → ((tree : Tree) → old.tree ≡ Some tree → old.roots ≡ roots → SaysSo roots action made line texts tree)
@@ -76,6 +87,31 @@ pub fn an_action_is_one_transaction()
     ensures stopped { (roots : Roots) (action : Action) (made : Tree → Transacted) (line : List ℕ) (texts : List Reply → List ℕ) (old new : State) (before after : Report) (stop : Stop) (result : Result (Unit {0}) Stop)
         → result ≡ Err stop → ((tree : Tree) → old.tree ≡ Some tree → old.roots ≡ roots → SaysSo roots action made line texts tree)
         → Commits roots made old new (Err stop) → DoesAcrossCrashes roots action old new before after result }
+    ensures untold { (roots : Roots) (action : Action) (made : Tree → Transacted) (line : List ℕ) (texts : List Reply → List ℕ) (old new : State) (before after : Report) (replies : List Reply) (result : Result (Unit {0}) Stop)
+        → result ≡ Err NoMemory → ((tree : Tree) → old.tree ≡ Some tree → old.roots ≡ roots → SaysSo roots action made line texts tree)
+        → Commits roots made old new (Ok replies) → DoesAcrossCrashes roots action old new before after result }
+{}
+
+/// A step, its line, and a child behind it that may change nothing, if there is one, are one transaction of changes that
+/// make that step.
+pub fn a_step_and_a_child_are_one_transaction()
+    ensures alone { (roots : Roots) (script : Script) (changes : List Change) (step : Tree → Tree) (line : List ℕ) (text : Reply → List ℕ) (tree : Tree) → runs_in changes ≡ []
+        → public_tree roots (done roots script changes tree) ≡ step (public_tree roots tree) → foreign_tree roots (done roots script changes tree) ≡ foreign_tree roots tree
+        → SaysSo roots (transaction step line then warn []) (transacted roots script changes) line (flat_map text) tree }
+    ensures asked { (roots : Roots) (script : Script) (changes : List Change) (step : Tree → Tree) (line : List ℕ) (text : Reply → List ℕ) (tree : Tree) (request : Request) → runs_in changes ≡ []
+        → public_tree roots (done roots script changes tree) ≡ step (public_tree roots tree) → foreign_tree roots (done roots script changes tree) ≡ foreign_tree roots tree
+        → request.area ≡ areas.Nothing → is_dir (node_at (done roots script changes tree) request.dir) ≡ true
+        → SaysSo roots (transaction step line then asks roots script request (λ reply. warn (text reply))) (transacted roots script (changes ++ Run request ∷ [])) line (flat_map text) tree }
+{}
+
+/// A call that only looks comes before an action: where it finds a cause the action is refused, else it goes on.
+pub fn a_cause_is_looked_for()
+    ensures refused { (roots : Roots) (read due : Tree → Option Refusal) (second : Action) (old mid : State) (report : Report) (stop : Stop) (result : Result (Unit {0}) Stop)
+        → result ≡ Err stop → ((tree : Tree) → read tree ≡ due (public_tree roots tree)) → Decides read old mid result
+        → DoesAcrossCrashes roots (unless due then second) old mid report report result }
+    ensures passed { (roots : Roots) (read due : Tree → Option Refusal) (second : Action) (old mid new : State) (before after : Report) (found result : Result (Unit {0}) Stop)
+        → found ≡ Ok tt → ((tree : Tree) → read tree ≡ due (public_tree roots tree)) → Decides read old mid found → DoesAcrossCrashes roots second mid new before after result
+        → DoesAcrossCrashes roots (unless due then second) old new before after result }
 {}
 
 /// An action goes on from work that was done aside, and ends where that stopped.
