@@ -1,16 +1,16 @@
 pub mod GroupLaws
 pub mod NumberLaws
-mod PatchDone
+pub mod PatchDone
 mod PatchForeign
 mod PatchGroups
-mod PatchMet
+pub mod PatchMet
 mod PatchOwn
-mod PatchParents
+pub mod PatchParents
 mod PatchPlaces
 mod PatchPlain
-mod PatchPublic
+pub mod PatchPublic
 mod PatchPuts
-mod PatchValid
+pub mod PatchValid
 pub mod RunLaws
 pub mod SetLaws
 pub mod StepLaws
