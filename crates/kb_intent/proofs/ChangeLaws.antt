@@ -47,7 +47,7 @@ use Rattle.kb_intent.specs.Doing.{made_dir_at, dropped_leaf_at, put_staged_at, S
 
 -- ---- the cause of a call that hands an answer on
 
-cause_of_ok : {A B : Type 0} (old new : State) (a : A) (b : B) → HasCause {T = A} Failed old new (Ok a) → HasCause {T = B} Failed old new (Ok b)
+pub cause_of_ok : {A B : Type 0} (old new : State) (a : A) (b : B) → HasCause {T = A} Failed old new (Ok a) → HasCause {T = B} Failed old new (Ok b)
 cause_of_ok old new a b c = record { later = c.later; rose = λ failed. absurd (done_not_failed b failed); steady = c.steady; never = λ told is failed. done_not_failed b failed }
 
 -- ---- changes that are one file operation

@@ -3,6 +3,7 @@
 
 mod changing;
 mod doing;
+mod finishing;
 mod standing;
 
-pub use changing::{do_change, do_changes};
+pub use changing::{Ran, do_change, do_changes};
