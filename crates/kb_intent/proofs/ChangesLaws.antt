@@ -1,16 +1,15 @@
 -- Changes in their order: one more, and one that stopped.
-use Rattle.std.proofs.Common.{◌≡◌, ◌⊎◌, ℕ, ◌+◌, ◌<◌, ◌≤◌, Bool, true, false, List, [], ◌∷◌, ◌++◌, length, take, drop, map, get_or, Option, Some, None, is_some, cond, Result, Ok, Err, refl, sym, ap, ◌∙◌, subst, inl, inr, arith, append_assoc, append-nil, take_all}
-use Rattle.std.specs.Prelude.{filter_map, IsErrOf, IsTrue, IfOk}
-use Rattle.std.specs.List.{AllByRecursion, fold}
+use Rattle.std.proofs.Common.{◌≡◌, ◌⊎◌, ℕ, ◌+◌, ◌<◌, ◌≤◌, Bool, true, false, List, [], ◌∷◌, ◌++◌, length, take, drop, map, get_or, Option, Some, None, cond, Result, Ok, Err, refl, sym, ap, ◌∙◌, subst, inl, inr, arith, append_assoc, append-nil, take_all}
+use Rattle.std.specs.Prelude.{filter_map, IsErrOf, IsTrue}
+use Rattle.std.specs.List.{AllByRecursion}
 use Rattle.std.specs.Option.{ForSome}
 use Rattle.std.proofs.lemmas.List.{take-append-drop, at_drop_more, map-append, length-take-le}
 use Rattle.std.proofs.Math.Seq.{take-append-add}
 use Rattle.std.proofs.lemmas.List.Elements.{filter_map-append}
 use Rattle.std.proofs.lemmas.List.Sums.{fold-append}
-use Rattle.kb_world.specs.Area.{IsLeft}
-use Rattle.kb_world.specs.Crash.{History, Adds}
+use Rattle.kb_world.specs.Crash.{Adds}
 use Rattle.kb_world.specs.Script.{Script, answer_in}
-use Rattle.kb_world.specs.State.{State, HasCause, Lasts, Rose}
+use Rattle.kb_world.specs.State.{State, HasCause, Lasts}
 use Rattle.kb_world.specs.Tree.{Tree, node_at, is_dir}
 use Rattle.kb_world.specs.declared.child.Area.{Area}
 use Rattle.kb_world.specs.declared.child.Reply.{Reply}
@@ -25,11 +24,11 @@ use Rattle.kb_changes.specs.Groups.{run_of}
 use Rattle.kb_changes.specs.declared.change.Change.{Change}
 use Rattle.kb_changes.specs.declared.change.Change.TheVariants as changes
 use Rattle.kb_again.specs.Sparing.{areas_of}
-use Rattle.kb_again.specs.Within.{IsWithin, IsWithinNext, IsBetween}
+use Rattle.kb_again.specs.Within.{IsWithin, IsBetween}
 use Rattle.kb_machine.specs.Aside.{IsOneArea}
 use Rattle.kb_machine.proofs.AsideThenLaws.{member_left, member_right, all_members, all_append, all_wider, left_by_members}
 use Rattle.kb_walk.proofs.WipeCalls.{done_not_failed}
-use Rattle.kb_intent.specs.Doing.{DoesChange, IsChanged, LeftWithin, said_by, asked_by, AreChanged, IsCutOffNow, DoesChanges}
+use Rattle.kb_intent.specs.Doing.{DoesChange, LeftWithin, said_by, asked_by, AreChanged, IsCutOffNow, DoesChanges}
 use Rattle.kb_intent.specs.declared.changing.Ran.{Ran}
 
 -- ---- one change more, told by definitions

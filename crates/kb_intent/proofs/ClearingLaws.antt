@@ -1,15 +1,14 @@
 -- Areas that are settled one after another, and paths that are taken away one after another.
-use Rattle.std.proofs.Common.{◌≡◌, ◌⊎◌, ℕ, ◌+◌, ◌<◌, ◌≤◌, Bool, true, false, cond, ◌||◌, List, [], ◌∷◌, ◌++◌, length, take, drop, map, get_or, Option, Some, None, is_some, Result, Ok, Err, refl, sym, ap, ◌∙◌, subst, inl, inr, arith, append_assoc, append-nil, take_all}
-use Rattle.std.specs.Prelude.{filter, filter_map, option_map, IsErrOf, IsTrue, OnOk}
+use Rattle.std.proofs.Common.{◌≡◌, ℕ, ◌+◌, ◌<◌, ◌≤◌, Bool, true, false, cond, ◌||◌, List, [], ◌∷◌, ◌++◌, length, take, map, get_or, Option, Some, None, Result, Ok, Err, refl, sym, ap, ◌∙◌, subst, inl, inr, arith, take_all}
+use Rattle.std.specs.Prelude.{filter, filter_map, option_map, OnOk}
 use Rattle.std.specs.List.{list_any, AllByRecursion}
-use Rattle.std.specs.Option.{ForSome}
 use Rattle.std.proofs.lemmas.List.{map-append}
 use Rattle.std.proofs.lemmas.List.Elements.{filter_map-append}
 use Rattle.kb_world.specs.Area.{IsLeft}
-use Rattle.kb_world.specs.Crash.{History, LeftOf, Adds}
+use Rattle.kb_world.specs.Crash.{LeftOf}
 use Rattle.kb_world.specs.Path.{Path, is_under}
-use Rattle.kb_world.specs.State.{State, HasCause, Settles}
-use Rattle.kb_world.specs.Tree.{Tree, node_at, IsFormed}
+use Rattle.kb_world.specs.State.{State, Settles}
+use Rattle.kb_world.specs.Tree.{Tree, node_at}
 use Rattle.kb_world.specs.TreeLaws.{same_tree}
 use Rattle.kb_world.specs.declared.child.Area.{Area}
 use Rattle.kb_world.specs.declared.child.Request.{Request}
@@ -25,9 +24,9 @@ use Rattle.kb_machine.specs.Aside.{IsOneArea}
 use Rattle.kb_machine.proofs.AsideThenLaws.{all_members, all_wider, left_by_members}
 use Rattle.kb_walk.specs.Wipe.{Wipes, without_tree, IsWipedInPart}
 use Rattle.kb_walk.proofs.WipeLaws.{cleared_at}
-use Rattle.kb_walk.proofs.WipeCalls.{HasFormedTree, cause_handed, done_not_failed}
+use Rattle.kb_walk.proofs.WipeCalls.{HasFormedTree, done_not_failed}
 use Rattle.kb_intent.specs.Clearing.{SettlesAll, without_trees, IsGoneAt, LeftOfGone, TakesAllAway}
-use Rattle.kb_intent.proofs.ChangesLaws.{split_here, one_longer}
+use Rattle.kb_intent.proofs.ChangesLaws.{one_longer}
 
 -- ---- one of these areas has what all have
 

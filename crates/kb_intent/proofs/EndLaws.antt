@@ -1,33 +1,33 @@
 -- The journal goes last.
-use Rattle.std.proofs.Common.{◌≡◌, ◌⊎◌, ℕ, ◌≤◌, Bool, true, false, List, [], ◌∷◌, ◌++◌, Option, Some, None, is_some, Result, Ok, Err, refl, sym, ap, ◌∙◌, subst, inl, inr, arith}
-use Rattle.std.specs.Prelude.{option_map, IsErrOf, IsTrue, OnOk, IfOk}
+use Rattle.std.proofs.Common.{◌≡◌, true, false, List, [], Option, Some, None, is_some, Result, Ok, Err, refl, sym, ap, ◌∙◌, subst, inl, inr, arith}
+use Rattle.std.specs.Prelude.{option_map}
 use Rattle.std.specs.Option.{ForSome}
 use Rattle.kb_world.specs.Area.{IsLeft}
-use Rattle.kb_world.specs.Crash.{History, LeftOf, Adds}
+use Rattle.kb_world.specs.Crash.{LeftOf, Adds}
 use Rattle.kb_world.specs.Public.{intent_path, public_tree}
 use Rattle.kb_world.specs.Roots.{AreApart}
-use Rattle.kb_world.specs.State.{State, HasCause, Changes}
-use Rattle.kb_world.specs.Tree.{Tree, node_at, without, is_dir, is_leaf, IsFormed}
+use Rattle.kb_world.specs.State.{State, Changes}
+use Rattle.kb_world.specs.Tree.{Tree, node_at, without, is_dir, is_leaf}
 use Rattle.kb_world.specs.declared.roots.Roots.{Roots}
 use Rattle.kb_world.specs.declared.world.WorldError.{WorldError}
 use Rattle.kb_world.specs.declared.world.WorldError.TheVariants.{Failed, NoMemory}
 use Rattle.kb_world.proofs.CrashLaws.{adds_then, adds_wider, turns_adds, turns_none}
 use Rattle.kb_world.proofs.DoesLaws.{cause_then, lasts_then}
-use Rattle.kb_changes.specs.Change.{done, requests_of, replies_of}
+use Rattle.kb_changes.specs.Change.{done}
 use Rattle.kb_changes.specs.Valid.{is_valid}
 use Rattle.kb_changes.specs.declared.change.Change.{Change}
 use Rattle.kb_changes.specs.declared.change.Intent.{Intent}
-use Rattle.kb_again.specs.Sparing.{AreSparing, areas_of, settled}
+use Rattle.kb_again.specs.Sparing.{AreSparing, areas_of}
 use Rattle.kb_again.specs.Within.{staging_paths}
 use Rattle.kb_again.proofs.Laws.{settled_sparing}
 use Rattle.kb_machine.specs.Commits.{cleaned}
 use Rattle.kb_machine.specs.Opens.{IsReady, Opens, own_areas}
 use Rattle.kb_machine.specs.Stands.{Stands, Rests}
 use Rattle.kb_machine.proofs.RestLaws.{spared_public, spared_journal, opens-none, rests_from}
-use Rattle.kb_walk.proofs.WipeCalls.{HasFormedTree, cause_handed, done_not_failed}
+use Rattle.kb_walk.proofs.WipeCalls.{HasFormedTree, cause_handed}
 use Rattle.kb_intent.specs.Clearing.{SettlesAll, without_trees, TakesAllAway}
 use Rattle.kb_intent.specs.Doing.{DoesChanges}
-use Rattle.kb_intent.specs.Finish.{HasJournal, store_after, IsFinished, KeepsOpening, Finishes}
+use Rattle.kb_intent.specs.Finish.{HasJournal, store_after, Finishes}
 use Rattle.kb_intent.specs.declared.changing.Ran.{Ran}
 use Rattle.kb_intent.proofs.ChangeLaws.{cause_of_ok}
 use Rattle.kb_intent.proofs.FinishLaws.{IsOnTheWay, way_begins, way_settles, way_takes, way_opens, way_stands}

@@ -1,41 +1,36 @@
 -- The parts of what ends a transaction, one after another.
-use Rattle.std.proofs.Common.{◌≡◌, ◌⊎◌, ℕ, ◌≤◌, Bool, true, false, List, [], ◌∷◌, ◌++◌, Option, Some, None, is_some, Result, Ok, Err, refl, sym, ap, ◌∙◌, subst, inl, inr, arith}
-use Rattle.std.specs.Prelude.{option_map, IsErrOf, IsTrue, OnOk, IfOk}
-use Rattle.std.specs.List.{AllByRecursion, list_all}
+use Rattle.std.proofs.Common.{◌≡◌, ◌⊎◌, true, List, ◌++◌, Option, Some, Result, Ok, Err, sym, ◌∙◌, subst, inl, inr}
+use Rattle.std.specs.List.{AllByRecursion}
 use Rattle.std.specs.Option.{ForSome}
-use Rattle.kb_world.specs.Area.{IsLeft}
-use Rattle.kb_world.specs.Crash.{History, LeftOf, Adds}
-use Rattle.kb_world.specs.Public.{intent_path, public_tree}
+use Rattle.kb_world.specs.Crash.{LeftOf, Adds}
 use Rattle.kb_world.specs.Roots.{AreApart}
 use Rattle.kb_world.specs.Script.{Script}
-use Rattle.kb_world.specs.State.{State, HasCause, Lasts, Changes}
-use Rattle.kb_world.specs.Tree.{Tree, node_at, without, is_dir, is_leaf, IsFormed}
+use Rattle.kb_world.specs.State.{State, HasCause, Lasts}
+use Rattle.kb_world.specs.Tree.{Tree}
 use Rattle.kb_world.specs.declared.child.Area.{Area}
 use Rattle.kb_world.specs.declared.roots.Roots.{Roots}
 use Rattle.kb_world.specs.declared.world.WorldError.{WorldError}
-use Rattle.kb_world.specs.declared.world.WorldError.TheVariants.{Failed, NoMemory}
-use Rattle.kb_world.proofs.CrashLaws.{adds_then, adds_none, adds_wider, turns_adds, turns_none}
+use Rattle.kb_world.specs.declared.world.WorldError.TheVariants.{Failed}
+use Rattle.kb_world.proofs.CrashLaws.{adds_then, adds_wider}
 use Rattle.kb_world.proofs.DoesLaws.{cause_then, lasts_then}
-use Rattle.kb_changes.specs.Change.{done, requests_of, replies_of}
+use Rattle.kb_changes.specs.Change.{done, requests_of}
 use Rattle.kb_changes.specs.Valid.{is_valid}
 use Rattle.kb_changes.specs.declared.change.Change.{Change}
 use Rattle.kb_changes.specs.declared.change.Intent.{Intent}
-use Rattle.kb_again.specs.Sparing.{AreSparing, areas_of, settled}
-use Rattle.kb_again.specs.Within.{IsBetween, IsUnstaged, IsDoneAlike, staging_paths}
-use Rattle.kb_again.proofs.Laws.{between_done_alike, own_sparing, settled_sparing}
+use Rattle.kb_again.specs.Sparing.{AreSparing, areas_of}
+use Rattle.kb_again.specs.Within.{IsBetween, IsUnstaged, staging_paths}
+use Rattle.kb_again.proofs.Laws.{between_done_alike, own_sparing}
 use Rattle.kb_machine.specs.Aside.{IsOneArea}
-use Rattle.kb_machine.specs.Commits.{cleaned}
 use Rattle.kb_machine.specs.Opens.{Opens}
-use Rattle.kb_machine.specs.Stands.{Stands, Rests}
+use Rattle.kb_machine.specs.Stands.{Stands}
 use Rattle.kb_machine.proofs.AsideThenLaws.{all_append, left_by_members}
-use Rattle.kb_machine.proofs.RestLaws.{spared_public, spared_journal, opens-none, rests_from}
-use Rattle.kb_walk.proofs.WipeCalls.{HasFormedTree, cause_handed, done_not_failed}
-use Rattle.kb_intent.specs.Clearing.{SettlesAll, without_trees, IsGoneAt, LeftOfGone, TakesAllAway}
-use Rattle.kb_intent.specs.Doing.{AreChanged, DoesChanges}
-use Rattle.kb_intent.specs.Finish.{HasJournal, store_after, IsFinished, KeepsOpening, Finishes}
+use Rattle.kb_walk.proofs.WipeCalls.{HasFormedTree, cause_handed}
+use Rattle.kb_intent.specs.Clearing.{SettlesAll, LeftOfGone, TakesAllAway}
+use Rattle.kb_intent.specs.Doing.{DoesChanges}
+use Rattle.kb_intent.specs.Finish.{HasJournal, store_after, KeepsOpening, Finishes}
 use Rattle.kb_intent.specs.declared.changing.Ran.{Ran}
 use Rattle.kb_intent.proofs.ClearingLaws.{all_through, gone_none, gone_then}
-use Rattle.kb_intent.proofs.StandingLaws.{sparing_now, cut_alike, unstaged_alike, unstaged_journal, done_journal, opens_alike, stands_alike, cleaned_is, unstaged_public, bare_public, bare_journal}
+use Rattle.kb_intent.proofs.StandingLaws.{sparing_now, cut_alike, unstaged_alike, opens_alike, stands_alike}
 
 -- ---- behind the changes, while what their children left is settled and what is staged goes
 

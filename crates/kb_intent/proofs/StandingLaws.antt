@@ -2,9 +2,7 @@
 -- gone.
 use Rattle.std.proofs.Common.{◌≡◌, ◌⊎◌, Bool, true, false, cond, ◌&&◌, ◌||◌, not, List, [], ◌∷◌, ◌++◌, take, Option, Some, None, refl, sym, ap, ◌∙◌, subst, inl, inr, append-nil}
 use Rattle.std.specs.Prelude.{codes}
-use Rattle.std.specs.List.{list_any, list_all, AllByRecursion}
-use Rattle.std.specs.Cmp.{first_so, second_so}
-use Rattle.std.proofs.lemmas.Bool.{cases_Bool}
+use Rattle.std.specs.List.{list_any, AllByRecursion}
 use Rattle.kb_world.specs.Area.{IsLeft}
 use Rattle.kb_world.specs.Path.{Path, is_under, child}
 use Rattle.kb_world.specs.Public.{intent_path, is_private, is_loose, is_public, public_tree}
@@ -14,15 +12,14 @@ use Rattle.kb_world.specs.State.{State}
 use Rattle.kb_world.specs.Crash.{LeftOf}
 use Rattle.kb_world.specs.StorePath.{store_path, is_in_scratch}
 use Rattle.kb_world.specs.Tree.{Tree, node_at, without, is_dir, IsFormed}
-use Rattle.kb_world.specs.TreeLaws.{same_tree, same_path, same_path-true, same_path-refl, node_at-remove, remove-here}
+use Rattle.kb_world.specs.TreeLaws.{same_tree, same_path, same_path-true, node_at-remove, remove-here}
 use Rattle.kb_world.specs.declared.child.Area.{Area}
 use Rattle.kb_world.specs.declared.roots.Roots.{Roots}
 use Rattle.kb_world.specs.declared.tree.Node.{Node}
-use Rattle.kb_world.specs.declared.tree.Node.TheVariants as nodes
 use Rattle.kb_world.proofs.PathLaws.{under-self}
 use Rattle.kb_world.proofs.PublicLaws.{node_at-public_tree}
 use Rattle.kb_changes.specs.Change.{done}
-use Rattle.kb_changes.specs.Valid.{is_valid, is_well_placed, are_ordered, are_targets_kept, are_dirs_kept, are_well_placed, is_kept_out, new_intent_path}
+use Rattle.kb_changes.specs.Valid.{is_valid, is_kept_out, new_intent_path}
 use Rattle.kb_changes.specs.declared.change.Change.{Change}
 use Rattle.kb_changes.specs.declared.change.Intent.{Intent}
 use Rattle.kb_again.specs.Sparing.{IsSparing, AreSparing, areas_of}
@@ -31,10 +28,8 @@ use Rattle.kb_again.proofs.Laws.{between_done_alike, unstaged_done_alike, own_sp
 use Rattle.kb_machine.specs.Aside.{IsOneArea}
 use Rattle.kb_machine.specs.Commits.{cleaned}
 use Rattle.kb_machine.specs.Opens.{IsReady, recovers, Opens, own_areas}
-use Rattle.kb_machine.specs.Stands.{Stands, Rests}
+use Rattle.kb_machine.specs.Stands.{Stands}
 use Rattle.kb_machine.proofs.AsideThenLaws.{all_append, all_wider, left_by_members, all_members, member_right}
-use Rattle.kb_machine.proofs.RestLaws.{spared_public, spared_journal, opens-none, rests_from}
-use Rattle.kb_walk.specs.Wipe.{without_tree}
 use Rattle.kb_walk.proofs.WipeLaws.{cleared_at, bare_gone}
 use Rattle.kb_intent.specs.Clearing.{without_trees}
 use Rattle.kb_intent.specs.Doing.{IsCutOffNow}
@@ -173,9 +168,12 @@ module _ (roots : Roots) (script : Script) (changes : List Change) (tree : Tree)
           (opens_alike image (each image state.history.soft spares (subst (λ o. LeftOf state.history.soft o image) told left)));
       spares = λ t is.
           let found : now ≡ t = some_same now t (sym told ∙ is) in
-          subst (λ x. (ready : Tree) × (found : Option Intent) × IsReady roots state.script x ready found × AreSparing roots (own_areas found) state.history.soft) found
-          (done roots script intent.changes now, Some intent, subst (λ f. IsReady roots f now (done roots script intent.changes now) (Some intent)) (sym scripted) (ready_alike now (each now [] tt (left_itself now formed_now []))),
-          subst (λ cs. AreSparing roots (areas_of cs) state.history.soft) (sym same) spares);
+          subst (λ x. (ready : Tree) × (found : Option Intent) × IsReady roots state.script x ready found × AreSparing roots (own_areas found) state.history.soft) found (
+            done roots script intent.changes now,
+            Some intent,
+            subst (λ f. IsReady roots f now (done roots script intent.changes now) (Some intent)) (sym scripted) (ready_alike now (each now [] tt (left_itself now formed_now []))),
+            subst (λ cs. AreSparing roots (areas_of cs) state.history.soft) (sym same) spares,
+          );
     }
       where
         some_same : (a b : Tree) → Some a ≡ Some b → a ≡ b
