@@ -57,7 +57,7 @@ told_before : (old new : Option Tree) (tree : Tree) → is_some new ≡ is_some 
 told_before (Some was) new tree same told = (was, refl)
 told_before None new tree same told = let impossible : true ≡ false = sym (ap is_some told) ∙ same in absurd (cc)
 
-stands_same : (roots : Roots) (store : Tree) (old new : State) → new.tree ≡ old.tree → new.history.soft ≡ old.history.soft → new.script ≡ old.script → Stands roots store old → Stands roots store new
+pub stands_same : (roots : Roots) (store : Tree) (old new : State) → new.tree ≡ old.tree → new.history.soft ≡ old.history.soft → new.script ≡ old.script → Stands roots store old → Stands roots store new
 stands_same roots store old new same soft scripted s = record {
   opens = λ image left. subst (λ f. Opens roots f image store) (sym scripted) (s.opens image (subst (λ o. LeftOf old.history.soft o image) same (subst (λ l. LeftOf l new.tree image) soft left)));
   spares = λ tree told.

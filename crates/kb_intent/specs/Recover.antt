@@ -49,6 +49,6 @@ pub record Recovers (roots : Roots) (old new : State) (result : Result (Option R
   pub found : ForSome old.tree (λ tree. IfOk result (Found roots old new tree))
   pub refused : (why : Refusal) → IsErrOf result (Refused why) → IsDamageTold roots old why
   pub damaged : ForSome old.tree (λ tree. HasDamagedJournal roots tree → Unchanged old new)
-  pub survives : (store : Tree) → Stands roots store old → KeepsOpening roots store old new result
+  pub survives : ForSome old.tree (λ tree. (store : Tree) → Stands roots store old → KeepsOpening roots store old new result)
   pub lasts : Lasts old new
   pub cause : HasCause Fault old new result
