@@ -83,7 +83,7 @@ settles_one {T = T} area old new result s = record {
 pub settles_no_run : (change : Change) (state : State) → ((request : Request) → change ≡ changes.Run request → ⊥) → SettlesAll (areas_of (change ∷ [])) {T = Unit {0}} state state (Ok tt)
 settles_no_run (changes.Run request) state none = absurd (none request refl)
 settles_no_run (changes.Dir path) state none = settles_none state tt
-settles_no_run (changes.Put root number target) state none = settles_none state tt
+settles_no_run (changes.Put _ number target) state none = settles_none state tt
 settles_no_run (changes.Drop path) state none = settles_none state tt
 settles_no_run (changes.DropDir path) state none = settles_none state tt
 settles_no_run (changes.Wipe path) state none = settles_none state tt

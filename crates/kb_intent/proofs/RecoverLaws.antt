@@ -270,8 +270,7 @@ module _ (roots : Roots) (intent : Intent) (old new : State) (formed : HasFormed
   store_is : (tree : Tree) → old.tree ≡ Some tree → (store : Tree) → Stands roots store old → (store_after roots old.script intent.changes tree ≡ store) × AreSparing roots (areas_of intent.changes) old.history.soft
   store_is tree told store stands =
       let opened = stands.opens tree (subst (λ o. LeftOf old.history.soft o tree) (sym told) (left_itself old.history.soft tree (formed tree told))) in
-      let spared = stands.spares tree told in
-      (
+      let spared = stands.spares tree told in (
         ap (public_tree roots) (sym (ready_by roots old.script tree opened.0 opened.1 intent (journal tree told) (only tree told) opened.2).0) ∙ opened.3,
         subst (λ found. AreSparing roots (own_areas found) old.history.soft) (ready_by roots old.script tree spared.0 spared.1 intent (journal tree told) (only tree told) spared.2).1 spared.3,
       )

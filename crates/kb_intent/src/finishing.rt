@@ -28,7 +28,8 @@ pub(crate) fn journal_path(alloc: Global, roots: &Roots) -> Result<Path, AllocEr
 
 // Settles the area of a run.
 fn settle_run<W: World>(alloc: Global, world: &mut W, change: &Change) -> Result<(), WorldError>
-    ensures { SettlesAll (areas_of (change.now ∷ [])) (W.state world.old) (W.state world.new) result }
+    ensures { SettlesAll (areas_of (change.now ∷ [])) (W.state world.old) (W.state world.new)
+        result }
 {
     match change {
         Change::Run(request) => world.settle(alloc, &request.area),
@@ -66,7 +67,8 @@ fn unstage_both<W: World>(
     first: &Path,
     second: &Path,
 ) -> Result<(), WorldError>
-    ensures { TakesAllAway (staging_path first.now ∷ staging_path second.now ∷ []) (W.state world.old) (W.state world.new) result }
+    ensures { TakesAllAway (staging_path first.now ∷ staging_path second.now ∷ [])
+        (W.state world.old) (W.state world.new) result }
 {
     match unstage_root(alloc, world, first) {
         Ok(()) => unstage_root(alloc, world, second),
@@ -76,7 +78,8 @@ fn unstage_both<W: World>(
 
 // Takes away what is staged.
 fn unstage<W: World>(alloc: Global, world: &mut W, roots: &Roots) -> Result<(), WorldError>
-    ensures { TakesAllAway (staging_paths roots.now) (W.state world.old) (W.state world.new) result }
+    ensures { TakesAllAway (staging_paths roots.now) (W.state world.old) (W.state world.new)
+        result }
 {
     match unstage_both(alloc, world, &roots.dkms, &roots.src) {
         Ok(()) => unstage_both(alloc, world, &roots.modules, &roots.boot),
@@ -86,8 +89,10 @@ fn unstage<W: World>(alloc: Global, world: &mut W, roots: &Roots) -> Result<(), 
 
 // Takes the journal away.
 fn drop_journal<W: World>(alloc: Global, world: &mut W, roots: &Roots) -> Result<(), WorldError>
-    requires { ForSome (W.state world.old).tree (λ tree. is_leaf (node_at tree (intent_path roots.now)) ≡ true) }
-    ensures { Changes (without (intent_path roots.now)) (W.state world.old) (W.state world.new) result }
+    requires { ForSome (W.state world.old).tree (λ tree.
+        is_leaf (node_at tree (intent_path roots.now)) ≡ true) }
+    ensures { Changes (without (intent_path roots.now)) (W.state world.old) (W.state world.new)
+        result }
 {
     match journal_path(alloc, roots) {
         Ok(path) => world.unlink(alloc, &path),
@@ -95,18 +100,20 @@ fn drop_journal<W: World>(alloc: Global, world: &mut W, roots: &Roots) -> Result
     }
 }
 
-/// Does what is left of a transaction whose journal stands: its changes, then what its children left is settled, what is
-/// staged goes, and the journal goes last.
+/// Does what is left of a transaction whose journal stands: its changes are done, what its children
+/// left is settled, what is staged goes, and the journal goes last.
 pub(crate) fn finish<W: World>(
     alloc: Global,
     world: &mut W,
     roots: &Roots,
     changes: &[Change],
 ) -> Result<Ran, WorldError>
-    requires rooted { ForSome (W.state world.old).tree (λ tree. (W.state world.old).roots ≡ roots.now) }
+    requires rooted { ForSome (W.state world.old).tree (λ tree.
+        (W.state world.old).roots ≡ roots.now) }
     requires apart { AreApart roots.now }
     requires valid { is_valid roots.now changes.now ≡ true }
-    requires journal { ForSome (W.state world.old).tree (λ tree. (intent : Intent) × HasJournal roots.now intent tree × (intent.changes ≡ changes.now)) }
+    requires journal { ForSome (W.state world.old).tree (λ tree. (intent : Intent)
+        × HasJournal roots.now intent tree × (intent.changes ≡ changes.now)) }
     ensures { Finishes roots.now changes.now (W.state world.old) (W.state world.new) result }
 {
     let ran = match do_changes(alloc, world, roots, changes) {

@@ -1,5 +1,8 @@
-//! Transactions that survive a power cut: their changes are done, what their children left is settled, what was staged goes,
-//! and their journal goes last. Where a journal stands the transaction is ended, from whatever a crash left of it.
+//! Transactions that survive a power cut. Once its journal stands, a transaction's changes are done
+//! in their order, what its children left is settled, what was staged for it goes, and the journal
+//! goes last. Where a journal still stands, a recovery ends its transaction from whatever a crash
+//! left: the store is then the one that an uncut transaction makes. The types of changes and the
+//! text of a journal are handed on.
 #![tactic(auto)]
 
 mod changing;
