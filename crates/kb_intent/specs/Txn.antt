@@ -1,5 +1,5 @@
 -- A transaction that is being put together: its changes, and what is staged for them. This project's own.
-use Rattle.std.specs.Prelude.{◌≡◌, ℕ, ◌≤◌, false, List, [], ◌∷◌, ◌++◌, length, Option, Some, None}
+use Rattle.std.specs.Prelude.{◌≡◌, ℕ, ◌≤◌, false, List, [], ◌∷◌, ◌++◌, length, Some, None}
 use Rattle.std.specs.List.{slice_get}
 use Rattle.kb_world.specs.Public.{staging_path}
 use Rattle.kb_world.specs.Tree.{Tree, node_at, is_leaf}
