@@ -1,4 +1,5 @@
 pub mod Doing
 pub mod Finish
 pub mod Recover
+pub mod Staging
 pub mod Txn
