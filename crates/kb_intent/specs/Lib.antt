@@ -2,4 +2,5 @@ pub mod Clearing
 pub mod Doing
 pub mod Finish
 pub mod Recover
+pub mod Staging
 pub mod Txn

@@ -9,9 +9,12 @@ mod changing;
 mod doing;
 mod finishing;
 mod recovering;
+mod staging;
 mod standing;
+mod txn;
 
 pub use changing::{Ran, do_change, do_changes};
 pub use kb_changes::{Change, Intent, Recovered, RootName};
 pub use kb_journal::{IntentError, read_intent, write_intent};
 pub use recovering::recover;
+pub use txn::Txn;
