@@ -144,6 +144,18 @@ step_keeps_foreign roots apart key good tree =
 
 -- ---- what the step leaves
 
+-- the step leaves the directory of the source as it was
+pub add_keeps_source : (roots : Roots) → AreApart roots → (key : Key) → (store : Tree) → node_at (add_step roots key store) (source_path roots key) ≡ node_at store (source_path roots key)
+add_keeps_source roots apart key store =
+    stays roots key store (source_path roots key) (outside _ (under-append roots.dkms (key.module ∷ [])))
+    (outside _ (under-append roots.dkms (key.module ∷ key.version ∷ [])))
+    (outside _ (under-append roots.dkms (key.module ∷ key.version ∷ codes "source" ∷ [])))
+  where
+    outside : (path : Path) → is_under path roots.dkms ≡ true → source_path roots key ≢ path
+    outside path under same =
+        let beside = elsewhere (source_path roots key) roots.src roots.dkms (apart-back roots.dkms roots.src (written_apart roots apart).dkms_src) (under-append roots.src _) in
+        let impossible : true ≡ false = sym under ∙ ap (λ p. is_under p roots.dkms) (sym same) ∙ beside in cc
+
 -- the directory of the source stands as it did
 pub source_stays : (roots : Roots) → AreApart roots → (key : Key) → (tree : Tree) → node_at (place_step (package_places roots key) tree) (source_path roots key) ≡ node_at tree (source_path roots key)
 source_stays roots apart key tree =

@@ -1,4 +1,6 @@
-pub mod AddLaws
-pub mod DoesAdd
-pub mod PlaceLaws
-pub mod ScriptLaws
+mod AddChanges
+mod AddLaws
+mod CommitAdd
+mod DoesAdd
+mod PlaceLaws
+mod ScriptLaws

@@ -1,4 +1,5 @@
 pub mod Add
+pub mod Commit
 pub mod Host
 pub mod Places
 pub mod Scripts
