@@ -1,1 +1,4 @@
+pub mod FieldLaws
+pub mod LeftLaws
 pub mod SpellLaws
+pub mod SplitLaws
