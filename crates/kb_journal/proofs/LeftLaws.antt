@@ -1,7 +1,7 @@
 -- A list of values is read in a loop: so many are read, the rest is left.
 use Rattle.std.proofs.Common.{◌≡◌, ℕ, ◌+◌, ◌<◌, ◌≤◌, List, [], ◌∷◌, ◌++◌, length, map, flat_map, All, arith, sym, ap, ◌∙◌, append_assoc, append-nil}
 use Rattle.std.specs.Str.{IsUtf8}
-use Rattle.std.proofs.lemmas.List.{length-map}
+use Rattle.std.proofs.lemmas.List.{length-append, length-map}
 use Rattle.std.proofs.lemmas.List.Elements.{All-head, All-tail}
 use Rattle.std.proofs.lemmas.List.Concat.{flat_map_single}
 
@@ -96,3 +96,20 @@ pub singles_left : {A : Type 0} (field : A → List ℕ) (Good : A → Type 0) (
     → All Good all → got ≡ [] → left ≡ map field all ++ more → AreLeft (λ x. field x ∷ []) Good all got more left 0
 singles_left field Good all got more left good none front =
     all_left (λ x. field x ∷ []) Good all got more left good none (front ∙ ap (λ l. l ++ more) (sym (singles field all)))
+
+-- ---- up to a field that is of none
+
+each_some : {A : Type 0} (spelled : A → List (List ℕ)) → ((x : A) → 0 < length (spelled x)) → (all : List A) → length all ≤ length (flat_map spelled all)
+each_some spelled some [] = omega arith
+each_some spelled some (x ∷ all) = omega (arith, some x, each_some spelled some all, length-append (spelled x) (flat_map spelled all))
+
+-- there are more fields than values
+pub fewer : {A : Type 0} (spelled : A → List (List ℕ)) → ((x : A) → 0 < length (spelled x)) → (all : List A) (end : List ℕ) (more old : List (List ℕ))
+    → old ≡ flat_map spelled all ++ end ∷ more → length all < length old
+fewer spelled some all end more old front =
+    omega (arith, each_some spelled some all, length-append (flat_map spelled all) (end ∷ more), ap length front)
+
+-- so the values don't outlast them
+pub not_over : {A : Type 0} (spelled : A → List (List ℕ)) (Good : A → Type 0) (all got : List A) (more left : List (List ℕ)) (i n : ℕ)
+    → AreLeft spelled Good all got more left i → length all < n → n ≤ i → ⊥
+not_over spelled Good all got more left i n part small over = omega (arith, part.counted)

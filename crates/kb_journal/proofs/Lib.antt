@@ -2,3 +2,4 @@ pub mod FieldLaws
 pub mod LeftLaws
 pub mod SpellLaws
 pub mod SplitLaws
+pub mod WordLaws

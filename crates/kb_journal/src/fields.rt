@@ -62,6 +62,13 @@ impl Fields {
         self.rest.pop()
     }
 
+    /// Passes over the first field.
+    pub fn skip(&mut self)
+        ensures { (field : List ℕ) (more : List (List ℕ)) → self.old ≡ field ∷ more → self.new ≡ more }
+    {
+        self.next();
+    }
+
     /// Puts a field before the others.
     pub fn put_back(&mut self, field: Bytes) -> Result<(), AllocError>
         ensures { OnOk result (self.new ≡ field ∷ self.old) }
