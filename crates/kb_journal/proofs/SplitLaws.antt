@@ -1,5 +1,5 @@
 -- A journal's text is cut into the fields of its lines.
-use Rattle.std.proofs.Common.{◌≡◌, ℕ, zero, suc, ◌<◌, ◌^◌, ◌/◌, ◌%◌, Bool, true, false, not, ◌&&◌, List, [], ◌∷◌, ◌++◌, length, get_or, map, flat_map, codes, All, arith, refl, sym, ap, ◌∙◌, subst, append_assoc, append-nil}
+use Rattle.std.proofs.Common.{◌≡◌, ℕ, zero, suc, ◌<◌, ◌^◌, ◌/◌, ◌%◌, Bool, true, false, not, List, [], ◌∷◌, ◌++◌, get_or, map, flat_map, All, arith, refl, sym, ap, ◌∙◌, subst, append_assoc, append-nil}
 use Rattle.std.specs.List.{list_all, slice_split}
 use Rattle.std.specs.Fmt.{decimal}
 use Rattle.std.specs.Char.{is_ascii_digit}
@@ -52,7 +52,7 @@ line_of first (next ∷ fields) rest plain =
     let inside = all_inside first parts.0 in
     let behind = spaced (next ∷ fields) in
     let cut : line_of_fields (first ∷ next ∷ fields) ++ rest ≡ first ++ (32 ∷ (line_of_fields (next ∷ fields) ++ rest)) =
-        ap (λ l. l ++ rest) (append_assoc first behind (10 ∷ [])) ∙ append_assoc first (behind ++ 10 ∷ []) rest in
+    ap (λ l. l ++ rest) (append_assoc first behind (10 ∷ [])) ∙ append_assoc first (behind ++ 10 ∷ []) rest in
     ap (slice_split is_field_end) cut ∙ slice_split_at is_field_end first 32 (line_of_fields (next ∷ fields) ++ rest) inside refl
     ∙ ap (λ l. first ∷ l) (line_of next fields rest parts.1)
 

@@ -1,8 +1,7 @@
 -- The word that begins the fields of an area or a change tells which it is.
-use Rattle.std.proofs.Common.{◌≡◌, ℕ, ◌<◌, ◌^◌, Bool, true, false, List, [], ◌∷◌, ◌++◌, length, map, codes, All, Option, Some, None, Result, Ok, ◌⊎◌, inl, inr, arith, refl, sym, ap, ◌∙◌, append_assoc}
+use Rattle.std.proofs.Common.{◌≡◌, ℕ, ◌<◌, true, false, List, [], ◌∷◌, ◌++◌, length, map, codes, Option, Some, Result, Ok, inl, inr, arith, refl, sym, ap, ◌∙◌}
 use Rattle.std.specs.Prelude.{bytes_eq, MatchOption}
 use Rattle.std.specs.Cmp.Lexicographic.{bytes_decides}
-use Rattle.std.specs.Str.{IsUtf8}
 use Rattle.std.specs.Fmt.{decimal}
 use Rattle.std.proofs.lemmas.Bool.{cases_lt}
 use Rattle.kb_world.specs.Path.{Path}
@@ -48,7 +47,7 @@ is_under_area area word rest more test good front = absurd (two_words word (code
 
 -- ---- changes
 
-abbrev change_word : Change → List ℕ
+abbrev pub change_word : Change → List ℕ
 change_word (Dir _) = codes "dir"
 change_word (Put _ _ _) = codes "put"
 change_word (Drop _) = codes "drop"
@@ -56,7 +55,7 @@ change_word (DropDir _) = codes "dropdir"
 change_word (Wipe _) = codes "wipe"
 change_word (Run _) = codes "run"
 
-abbrev change_rest : Change → List (List ℕ)
+abbrev pub change_rest : Change → List (List ℕ)
 change_rest (Dir path) = rule.path_field path ∷ []
 change_rest (Put root number target) = rule.root_field root ∷ decimal number ∷ rule.path_field target ∷ []
 change_rest (Drop path) = rule.path_field path ∷ []

@@ -1,8 +1,9 @@
 // The fields of a text.
-ghost use Rattle.std.specs.Prelude.{◌≡◌, List, ℕ, [], ◌∷◌, IfOk, OnOk, MatchOption, Some, None, bytes_eq, length, map};
+ghost use Rattle.std.specs.Prelude.{◌≡◌, List, ℕ, [], ◌∷◌, IfErr, IfOk, OnOk, MatchOption, Some, None, bytes_eq, length, map};
 ghost use Rattle.std.specs.List.{slice_split};
 ghost use Rattle.std.specs.Str.{IsUtf8};
 ghost use Rattle.kb_changes.specs.Text as rule;
+ghost use Rattle.kb_journal.specs.declared.error.IntentError.TheVariants.{NoMemory};
 ghost use Rattle.kb_journal.specs.Reads.{is_field_end, IsNoText, IsRead};
 
 use crate::error::IntentError;
@@ -96,6 +97,7 @@ pub(crate) fn is_word(field: &Bytes, word: &str) -> bool
 pub(crate) fn text_of(alloc: Global, field: &[u8]) -> Result<Option<Text>, IntentError>
     ensures text { (text : List ℕ) → IsUtf8 text → field.now ≡ rule.text_field text → IsRead (Some text) result }
     ensures none { IsNoText field.now → IsRead None result }
+    ensures failed { IfErr result (λ error. error ≡ NoMemory) }
 {
     if field == "-".as_bytes() {
         return Ok(Some(Text::of(alloc, "")?));

@@ -81,7 +81,7 @@ type Lists = (Texts, Sequence<(Text, Text)>, Sequence<Path>);
 fn read_lists(alloc: Global, fields: &mut Fields) -> Result<Lists, IntentError>
     ensures { (request : ARequest) (more : List (List ℕ)) → rule.IsTextRequest request
         → fields.old ≡ codes "args" ∷ rule.counted_fields (map rule.text_field request.args) ++ (codes "env" ∷ rule.pair_fields request.env
-            ++ (codes "seen" ∷ rule.counted_fields (map rule.path_field request.seen) ++ more))
+        ++ (codes "seen" ∷ rule.counted_fields (map rule.path_field request.seen) ++ more))
         → ReadsBack (request.args, request.env, request.seen) more result fields.new }
 {
     fields.skip();

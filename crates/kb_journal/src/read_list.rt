@@ -88,10 +88,7 @@ pub(crate) fn read_texts(alloc: Global, fields: &mut Fields) -> Result<Texts, In
 }
 
 /// Reads a count and so many paths.
-pub(crate) fn read_paths(
-    alloc: Global,
-    fields: &mut Fields,
-) -> Result<Sequence<Path>, IntentError>
+pub(crate) fn read_paths(alloc: Global, fields: &mut Fields) -> Result<Sequence<Path>, IntentError>
     ensures { (paths : List APath) (more : List (List ℕ)) → All rule.IsTextPath paths → length paths < 2 ^ 64
         → fields.old ≡ rule.counted_fields (map rule.path_field paths) ++ more → ReadsBack paths more result fields.new }
 {

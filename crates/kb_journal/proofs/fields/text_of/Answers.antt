@@ -1,6 +1,5 @@
 -- A text's field gives the text.
-use Rattle.std.proofs.Common.{◌≡◌, Bool, List, ℕ, Ok, Err, Some, true, false, codes, refl, sym, ◌∙◌, ap, subst}
-use Rattle.std.specs.Prelude.{bytes_eq}
+use Rattle.std.proofs.Common.{Some, true, false, sym, ◌∙◌, ap, subst}
 use Rattle.std.specs.Str.{IsUtf8}
 use Rattle.hex.proofs.HexLemmas.{decode_of-same}
 use Rattle.kb_journal.proofs.FieldLaws.{dash_is_none, decoded, refused, tested}
@@ -22,10 +21,7 @@ returns-in-Ok-clause-text c text utf8 is =
     let same = decode_of-same c.args.field.now c.in-Ok.bytes.items text c.in-Ok.ensures.ok (decoded text c.args.field.now utf8 is other) in
     absurd (c.in-Err-from_utf8.ensures.cases.0 (subst IsUtf8 (sym (c.deref.ensures.value ∙ same)) utf8))
 
-pub returns : goal.returns
-returns c = record {
-  text = λ text utf8 is.
-      let other = tested c.args.field.now c.as_bytes.result.now c.eq.result false c.as_bytes.ensures.value c.eq.ensures c.if-eq.false in
-      absurd (refused text c.args.field.now c.in-Err.error utf8 is other c.in-Err.ensures.err c.in_default.not-OutOfMemory);
-  none = λ h. refl;
-}
+pub returns-clause-text : goal.returns-clause-text
+returns-clause-text c text utf8 is =
+    let other = tested c.args.field.now c.as_bytes.result.now c.eq.result false c.as_bytes.ensures.value c.eq.ensures c.if-eq.false in
+    absurd (refused text c.args.field.now c.in-Err.error utf8 is other c.in-Err.ensures.err c.in_default.not-OutOfMemory)

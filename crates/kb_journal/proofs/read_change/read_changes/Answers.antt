@@ -1,5 +1,5 @@
 -- One change more, or their end.
-use Rattle.std.proofs.Common.{ℕ, List, ◌≡◌, ◌<◌, ◌∷◌, length, codes, sym, subst, ◌∙◌}
+use Rattle.std.proofs.Common.{◌<◌, ◌∷◌, length, codes, sym, subst, ◌∙◌}
 use Rattle.kb_changes.specs.Text as rule
 use Rattle.kb_journal.proofs.LeftLaws.{fewer, first_left, next_left, not_over}
 use Rattle.kb_journal.proofs.WordLaws.{ends, goes_on, some_fields, took}

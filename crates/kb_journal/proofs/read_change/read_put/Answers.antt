@@ -1,5 +1,5 @@
 -- The three parts of a put are read back.
-use Rattle.std.proofs.Common.{ℕ, List, ◌∷◌, ◌++◌}
+use Rattle.std.proofs.Common.{◌∷◌}
 use Rattle.std.specs.Fmt.{decimal}
 use Rattle.kb_changes.specs.Text as rule
 use Rattle.kb_changes.specs.declared.change.Change.TheVariants as changes

@@ -1,5 +1,5 @@
 -- Both texts of a pair are read back.
-use Rattle.std.proofs.Common.{[], ◌∷◌}
+use Rattle.std.proofs.Common.{◌∷◌}
 use Rattle.kb_changes.specs.Text as rule
 use Rattle.kb_journal.proofs.read_list.read_pair.Goals as goal
 

@@ -1,6 +1,5 @@
 -- One path more.
-use Rattle.std.proofs.Common.{ℕ, ◌^◌, [], ◌∷◌, ◌++◌, length, map}
-use Rattle.std.specs.Str.{IsUtf8}
+use Rattle.std.proofs.Common.{◌^◌, [], ◌∷◌, ◌++◌, length, map}
 use Rattle.kb_changes.specs.Text as rule
 use Rattle.kb_journal.proofs.LeftLaws.{as_many, counted_below, counted_over, first_left, next_left, none_left, singles_left}
 use Rattle.kb_journal.proofs.read_list.read_paths.Goals as goal
@@ -20,7 +19,7 @@ pub returns-in-Err-read_path : goal.returns-in-Err-read_path
 returns-in-Err-read_path c paths more good small front =
     let count = c.in-Ok.ensures (length (map rule.path_field paths)) (map rule.path_field paths ++ more) (as_many rule.path_field paths (2 ^ 64) small) front in
     let first = first_left (λ path. rule.path_field path ∷ []) rule.IsTextPath paths c.loop.paths more c.loop.fields c.loop.counter (c.loop.invariant paths more good small front)
-        (counted_below rule.path_field paths c.loop.counter c.in-Ok.count count.0 c.loop-test.true) in
+    (counted_below rule.path_field paths c.loop.counter c.in-Ok.count count.0 c.loop-test.true) in
     c.in-Err-read_path.ensures first.0 first.1 first.2 first.3
 
 pub returns : goal.returns
