@@ -3,6 +3,7 @@
 
 mod adding;
 mod places;
+mod preparing;
 mod scripts;
 
 pub use adding::add;

@@ -1,12 +1,8 @@
-// Where the parts of a package stand, and the making of its link.
-ghost use Rattle.std.specs.Prelude.{◌≡◌, true, IfOk, IsTrue};
-ghost use Rattle.std.specs.Option.{ForSome};
-ghost use Rattle.kb_world.specs.Path.{parent};
-ghost use Rattle.kb_world.specs.Tree.{node_at, is_dir};
-ghost use Rattle.kb_world.specs.Steps.{with_directory};
-ghost use Rattle.kb_world.specs.Does.{Decides, Transforms};
+// Where the parts of a package stand, and what is in the way of its link.
+ghost use Rattle.std.specs.Prelude.{◌≡◌, IfOk, IsTrue};
+ghost use Rattle.kb_world.specs.Does.{Decides};
 ghost use Rattle.kb_world.specs.Store.{is_key};
-ghost use Rattle.kb_dkms.specs.Places.{package_places, standing, blocked_by, place_blocked, place_step, IsNested, CanMakeLink};
+ghost use Rattle.kb_dkms.specs.Places.{package_places, standing, blocked_by, place_blocked};
 
 use kb_world::{Key, Kind, Path, Refusal, Roots, Stop, Text, World};
 use std::alloc::{AllocError, Global};
@@ -73,26 +69,4 @@ pub(crate) fn require_unblocked<W: World>(
 {
     require_passable(alloc, world, &places.module)?;
     require_passable(alloc, world, &places.version)
-}
-
-// Makes the directory where nothing stands.
-fn ensure_directory<W: World>(alloc: Global, world: &mut W, path: &Path) -> Result<(), Stop>
-    requires { ForSome (W.state world.old).tree (λ tree. is_dir (node_at tree (parent path.now)) ≡ true) }
-    ensures { Transforms (with_directory path.now) (W.state world.old) (W.state world.new) result }
-{
-    match world.look(alloc, path)? {
-        Kind::Absent => Ok(world.make_dir(alloc, path)?),
-        _ => Ok(()),
-    }
-}
-
-/// Makes the version's link, and the directories above it that aren't there.
-pub(crate) fn make_link<W: World>(alloc: Global, world: &mut W, places: &Places) -> Result<(), Stop>
-    requires nested { IsNested places.now }
-    requires free { ForSome (W.state world.old).tree (CanMakeLink places.now) }
-    ensures { Transforms (place_step places.now) (W.state world.old) (W.state world.new) result }
-{
-    ensure_directory(alloc, world, &places.module)?;
-    ensure_directory(alloc, world, &places.version)?;
-    Ok(world.put_link(alloc, &places.link, places.text.as_str())?)
 }
