@@ -4,13 +4,14 @@ use Rattle.std.specs.Option.{option_map}
 use Rattle.std.specs.Cmp.Lexicographic.{bytes_decides}
 use Rattle.kb_words.specs.declared.command.Command.TheVariants as command
 use Rattle.kb_words.specs.Words.{Word, Line, ForCommand, ForArchive, IsLine, is_archive}
-use Rattle.kb_words.specs.Reading.{Seen, nothing, seen_after, Progress, Start, Help, Dkms, Archive, Add, after_start, after_dkms, after_word, ended}
+use Rattle.kb_words.specs.Reading.{Seen, nothing, seen_after, Progress, Start, Help, Recover, Dkms, Archive, Add, after_start, after_dkms, after_word, ended}
 use Rattle.kb_words.proofs.PartLaws.{Completes, FollowsSeen, none_some, same_some, heads, tails, no_head, parts_go_on, parts_come_from, parts_end, parts_ended, parts_completed}
 
 -- from this state on, these words complete this line
 abbrev pub Rest : Progress → List Word → Line → Type 0
 Rest Start words line = IsLine words line
 Rest Help words line = (words ≡ []) × (line ≡ ForCommand command.Help None)
+Rest Recover words line = (words ≡ []) × (line ≡ ForCommand command.Recover None)
 Rest Dkms words line = IsLine (codes "dkms" ∷ words) line
 Rest (Archive action) words line = line ≡ ForArchive action
 Rest (Add seen) words line = FollowsSeen seen words line
@@ -35,6 +36,7 @@ archive_goes action is = by_case (bytes_eq action (codes "add")) refl
 
 pub goes_on : (state : Progress) (word : Word) (rest : List Word) (line : Line) → Rest state (word ∷ rest) line → (next : Progress) × (after_word state word ≡ Some next) × Rest next rest line
 goes_on Start word rest (ForCommand command.Help bad) is = (Help, ap after_start (heads word (codes "help") rest [] is.0), (tails word (codes "help") rest [] is.0, ap (ForCommand command.Help) is.1))
+goes_on Start word rest (ForCommand command.Recover bad) is = (Recover, ap after_start (heads word (codes "recover") rest [] is.0), (tails word (codes "recover") rest [] is.0, ap (ForCommand command.Recover) is.1))
 goes_on Start word rest (ForCommand (command.Add key) bad) is =
     let behind = codes "add" ∷ is.0 in (
       Dkms,
@@ -48,7 +50,9 @@ goes_on Start word rest (ForArchive action) is =
       (is.0, ap (λ words. codes "dkms" ∷ words) (tails word (codes "dkms") rest behind is.1), is.2),
     )
 goes_on Help word rest line is = absurd (no_head word rest is.0)
+goes_on Recover word rest line is = absurd (no_head word rest is.0)
 goes_on Dkms word rest (ForCommand command.Help bad) is = absurd (no_head word rest (tails (codes "dkms") (codes "help") (word ∷ rest) [] is.0))
+goes_on Dkms word rest (ForCommand command.Recover bad) is = absurd (no_head word rest (tails (codes "dkms") (codes "recover") (word ∷ rest) [] is.0))
 goes_on Dkms word rest (ForCommand (command.Add key) bad) is =
     let both = tails (codes "dkms") (codes "dkms") (word ∷ rest) (codes "add" ∷ is.0) is.2 in
     let named = is.3 in (
@@ -80,6 +84,9 @@ rest_as a b rest line same is = subst (λ state. Rest state rest line) (sym (sam
 help_comes : (word : Word) (rest : List Word) (line : Line) → word ≡ codes "help" → Rest Help rest line → IsLine (word ∷ rest) line
 help_comes word rest line at is = subst (IsLine (word ∷ rest)) (sym is.1) ((λ i. at i ∷ is.0 i), refl)
 
+recover_comes : (word : Word) (rest : List Word) (line : Line) → word ≡ codes "recover" → Rest Recover rest line → IsLine (word ∷ rest) line
+recover_comes word rest line at is = subst (IsLine (word ∷ rest)) (sym is.1) ((λ i. at i ∷ is.0 i), refl)
+
 add_comes : (word : Word) (rest : List Word) (line : Line) → word ≡ codes "add" → Completes None None None rest line → IsLine (codes "dkms" ∷ word ∷ rest) line
 add_comes word rest line at c =
     subst (IsLine (codes "dkms" ∷ word ∷ rest)) (sym c.line_is)
@@ -89,13 +96,16 @@ archive_comes : (word : Word) (rest : List Word) (line : Line) → is_archive wo
 archive_comes word rest line archive is = subst (IsLine (codes "dkms" ∷ word ∷ rest)) (sym is) (rest, refl, archive)
 
 pub comes_from : (state next : Progress) (word : Word) (rest : List Word) (line : Line) → after_word state word ≡ Some next → Rest next rest line → Rest state (word ∷ rest) line
-comes_from Start next word rest line e is = by_case (bytes_eq word (codes "help")) (bytes_eq word (codes "dkms")) refl refl e
+comes_from Start next word rest line e is = by_case (bytes_eq word (codes "help")) (bytes_eq word (codes "recover")) (bytes_eq word (codes "dkms")) refl refl refl e
   where
-    by_case : (h d : Bool) → bytes_eq word (codes "help") ≡ h → bytes_eq word (codes "dkms") ≡ d → cond h (Some Help) (cond d (Some Dkms) None) ≡ Some next → IsLine (word ∷ rest) line
-    by_case true d eh ed e = help_comes word rest line ((bytes_decides word (codes "help")).0 eh) (rest_as Help next rest line e is)
-    by_case false true eh ed e = subst (λ first. IsLine (first ∷ rest) line) (sym ((bytes_decides word (codes "dkms")).0 ed)) (rest_as Dkms next rest line e is)
-    by_case false false eh ed e = absurd (none_some next e)
+    by_case : (h r d : Bool) → bytes_eq word (codes "help") ≡ h → bytes_eq word (codes "recover") ≡ r → bytes_eq word (codes "dkms") ≡ d
+        → cond h (Some Help) (cond r (Some Recover) (cond d (Some Dkms) None)) ≡ Some next → IsLine (word ∷ rest) line
+    by_case true r d eh er ed e = help_comes word rest line ((bytes_decides word (codes "help")).0 eh) (rest_as Help next rest line e is)
+    by_case false true d eh er ed e = recover_comes word rest line ((bytes_decides word (codes "recover")).0 er) (rest_as Recover next rest line e is)
+    by_case false false true eh er ed e = subst (λ first. IsLine (first ∷ rest) line) (sym ((bytes_decides word (codes "dkms")).0 ed)) (rest_as Dkms next rest line e is)
+    by_case false false false eh er ed e = absurd (none_some next e)
 comes_from Help next word rest line e is = absurd (none_some next e)
+comes_from Recover next word rest line e is = absurd (none_some next e)
 comes_from Dkms next word rest line e is = by_case (bytes_eq word (codes "add")) (is_archive word) refl refl e
   where
     by_case : (a p : Bool) → bytes_eq word (codes "add") ≡ a → is_archive word ≡ p → by_archive word a p ≡ Some next → IsLine (codes "dkms" ∷ word ∷ rest) line
@@ -114,23 +124,27 @@ comes_from (Add seen) next word rest line e is = by_case (seen_after seen word) 
 pub ends : (state : Progress) (line : Line) → ended state ≡ Some line → Rest state [] line
 ends Start line is = absurd (none_some line is)
 ends Help line is = (refl, sym (same_some (ForCommand command.Help None) line is))
+ends Recover line is = (refl, sym (same_some (ForCommand command.Recover None) line is))
 ends Dkms line is = absurd (none_some line is)
 ends (Archive action) line is = sym (same_some (ForArchive action) line is)
 ends (Add seen) line is = parts_end seen line is
 
 dkms_alone : (line : Line) → IsLine (codes "dkms" ∷ []) line → ⊥
 dkms_alone (ForCommand command.Help bad) is = other_word (codes "dkms") (codes "help") refl (heads (codes "dkms") (codes "help") [] [] is.0)
+dkms_alone (ForCommand command.Recover bad) is = other_word (codes "dkms") (codes "recover") refl (heads (codes "dkms") (codes "recover") [] [] is.0)
 dkms_alone (ForCommand (command.Add key) bad) is = no_head (codes "add") is.0 (sym (tails (codes "dkms") (codes "dkms") [] (codes "add" ∷ is.0) is.2))
 dkms_alone (ForArchive action) is = no_head action is.0 (sym (tails (codes "dkms") (codes "dkms") [] (action ∷ is.0) is.1))
 
 no_words : (line : Line) → IsLine [] line → ⊥
 no_words (ForCommand command.Help bad) is = no_head (codes "help") [] (sym is.0)
+no_words (ForCommand command.Recover bad) is = no_head (codes "recover") [] (sym is.0)
 no_words (ForCommand (command.Add key) bad) is = no_head (codes "dkms") (codes "add" ∷ is.0) (sym is.2)
 no_words (ForArchive action) is = no_head (codes "dkms") (action ∷ is.0) (sym is.1)
 
 pub ended_so : (state : Progress) (line : Line) → Rest state [] line → ended state ≡ Some line
 ended_so Start line is = absurd (no_words line is)
 ended_so Help line is = ap Some (sym is.1)
+ended_so Recover line is = ap Some (sym is.1)
 ended_so Dkms line is = absurd (dkms_alone line is)
 ended_so (Archive action) line is = ap Some (sym is)
 ended_so (Add seen) line is = parts_ended seen line is
@@ -140,6 +154,7 @@ ended_so (Add seen) line is = parts_ended seen line is
 pub completed : (state : Progress) → (words : List Word) × (line : Line) × Rest state words line
 completed Start = (codes "help" ∷ [], ForCommand command.Help None, (refl, refl))
 completed Help = ([], ForCommand command.Help None, (refl, refl))
+completed Recover = ([], ForCommand command.Recover None, (refl, refl))
 completed Dkms = (codes "mkrpm" ∷ [], ForArchive (codes "mkrpm"), ([], refl, refl))
 completed (Archive action) = ([], ForArchive action, refl)
 completed (Add seen) = parts_completed seen

@@ -167,6 +167,7 @@ alone false b p q = p
 
 keeps : (words : List Word) (it : Command) → IsLine words (ForCommand it None) → names_keep_rules it ≡ true
 keeps words command.Help is = refl
+keeps words command.Recover is = refl
 keeps words (command.Add key) is =
     let good = good_names is.1 (sym is.4) in
     let names = is.3 in

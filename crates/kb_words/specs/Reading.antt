@@ -73,12 +73,14 @@ seen_after seen word = gone_on seen word seen.awaited
 pub data Progress : Type 0 where
   Start : Progress
   Help : Progress
+  Recover : Progress
   Dkms : Progress
   Archive : Word → Progress
   Add : Seen → Progress
 
 abbrev pub after_start : Word → Option Progress
-after_start word = cond (bytes_eq word (codes "help")) (Some Help) (cond (bytes_eq word (codes "dkms")) (Some Dkms) None)
+after_start word =
+    cond (bytes_eq word (codes "help")) (Some Help) (cond (bytes_eq word (codes "recover")) (Some Recover) (cond (bytes_eq word (codes "dkms")) (Some Dkms) None))
 
 abbrev pub after_dkms : Word → Option Progress
 after_dkms word = cond (bytes_eq word (codes "add")) (Some (Add nothing)) (cond (is_archive word) (Some (Archive word)) None)
@@ -87,6 +89,7 @@ after_dkms word = cond (bytes_eq word (codes "add")) (Some (Add nothing)) (cond 
 abbrev pub after_word : Progress → Word → Option Progress
 after_word Start word = after_start word
 after_word Help word = None
+after_word Recover word = None
 after_word Dkms word = after_dkms word
 after_word (Archive action) word = Some (Archive action)
 after_word (Add seen) word = option_map Add (seen_after seen word)
@@ -110,6 +113,7 @@ ended_add seen = line_of_add seen.bad (package_in seen)
 abbrev pub ended : Progress → Option Line
 ended Start = None
 ended Help = Some (ForCommand command.Help None)
+ended Recover = Some (ForCommand command.Recover None)
 ended Dkms = None
 ended (Archive action) = Some (ForArchive action)
 ended (Add seen) = ended_add seen

@@ -3,7 +3,7 @@ use Rattle.std.specs.Prelude.{Option, option_map}
 use Rattle.std.specs.Borrow.{Bor}
 use Rattle.kb_world.specs.declared.job.Key.{Key}
 use Rattle.kb_words.specs.Words.{Word}
-use Rattle.kb_words.specs.Reading.{Seen, Progress, Start, Help, Dkms, Archive, Add}
+use Rattle.kb_words.specs.Reading.{Seen, Progress, Start, Help, Recover, Dkms, Archive, Add}
 use Rattle.kb_words.specs.declared.parts.Seen as code
 use Rattle.kb_words.specs.declared.progress.Progress as code_state
 use Rattle.kb_words.specs.declared.progress.Progress.TheVariants as states
@@ -20,6 +20,7 @@ view_seen seen = record { awaited = seen.awaited; «module» = view_word seen.mo
 abbrev pub view_state : code_state.Progress → Progress
 view_state states.Start = Start
 view_state states.Help = Help
+view_state states.Recover = Recover
 view_state states.Dkms = Dkms
 view_state (states.Archive action) = Archive action.now
 view_state (states.Add seen) = Add (view_seen seen)

@@ -105,6 +105,7 @@ pub data Line : Type 0 where
 -- these words are this line
 abbrev pub IsLine : List Word → Line → Type 0
 IsLine words (ForCommand command.Help bad) = (words ≡ codes "help" ∷ []) × (bad ≡ None)
+IsLine words (ForCommand command.Recover bad) = (words ≡ codes "recover" ∷ []) × (bad ≡ None)
 IsLine words (ForCommand (command.Add key) bad) =
     (behind : List Word) × (parts : List Part) × (words ≡ codes "dkms" ∷ codes "add" ∷ behind) × NamesPackage behind parts key × (bad ≡ first_bad parts)
 IsLine words (ForArchive action) = (behind : List Word) × (words ≡ codes "dkms" ∷ action ∷ behind) × (is_archive action ≡ true)
@@ -139,4 +140,5 @@ IsReadAs words answer = ((line : Line) × IsLine words line × (answer ≡ answe
 -- the names in a command keep their rules
 abbrev pub names_keep_rules : Command → Bool
 names_keep_rules command.Help = true
+names_keep_rules command.Recover = true
 names_keep_rules (command.Add key) = is_key key

@@ -6,5 +6,7 @@ use kb_world::Key;
 #[derive(Debug, Drop)]
 pub enum Command {
     Help,
+    /// The journal's transaction is ended, and nothing else is done.
+    Recover,
     Add { key: Key },
 }

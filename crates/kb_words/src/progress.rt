@@ -17,6 +17,7 @@ use std::alloc::Global;
 pub enum Progress<'a> {
     Start,
     Help,
+    Recover,
     Dkms,
     /// Behind one of dkms's actions on archives.
     Archive(&'a str),
@@ -41,6 +42,8 @@ fn after_start(word: &str) -> Option<Progress<'_>>
 {
     if word == "help" {
         Some(Progress::Help)
+    } else if word == "recover" {
+        Some(Progress::Recover)
     } else if word == "dkms" {
         Some(Progress::Dkms)
     } else {
@@ -91,7 +94,7 @@ impl<'a> Progress<'a> {
     {
         match self {
             Progress::Start => after_start(word),
-            Progress::Help => None,
+            Progress::Help | Progress::Recover => None,
             Progress::Dkms => after_dkms(word),
             Progress::Archive(_) => Some(self),
             Progress::Add(seen) => Some(Progress::Add(seen.after(word)?)),
@@ -105,6 +108,7 @@ impl<'a> Progress<'a> {
         match self {
             Progress::Start | Progress::Dkms => Err(usage(place)),
             Progress::Help => Ok(Command::Help),
+            Progress::Recover => Ok(Command::Recover),
             Progress::Archive(word) => Err(Stop::Refused(Refusal::Archive {
                 word: Text::of(alloc, word)?,
             })),
