@@ -1,4 +1,5 @@
 pub mod BootLaws
+pub mod ReadyLaws
 pub mod RunLaws
 pub mod ServeLaws
 pub mod SettingLaws

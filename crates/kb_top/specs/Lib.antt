@@ -4,3 +4,4 @@ pub mod Serve
 pub mod Setting
 pub mod Start
 pub mod Tell
+pub mod Telling

@@ -1,16 +1,20 @@
--- The command machine: what words do to a store and the foreign tree. This project's own.
-use Rattle.std.specs.Prelude.{ℕ, cond, List, Option, Some, None, Result, Ok, Err, is_some, codes}
+-- The command machine: what words do to a store and the foreign tree, behind a recovery. This project's own.
+use Rattle.std.specs.Prelude.{ℕ, Bool, true, false, cond, List, [], ◌++◌, Option, Some, None, Result, Ok, Err, option_map, codes}
+use Rattle.std.specs.List.{join_by}
 use Rattle.kb_world.specs.Names.{is_kernel, is_arch}
 use Rattle.kb_world.specs.Path.{Path}
 use Rattle.kb_world.specs.Tree.{Tree, node_at, is_dir}
 use Rattle.kb_world.specs.Public.{intent_path, public_tree, foreign_tree}
 use Rattle.kb_world.specs.Script.{Script}
-use Rattle.kb_world.specs.Outcome.{Outcome, Action, refuse_if, unless, print, reads, ◌or◌, ◌then◌}
+use Rattle.kb_world.specs.Outcome.{Outcome, Action, refuse_if, unless, print, warn, reads, ◌or◌, ◌then◌}
+use Rattle.kb_world.specs.declared.child.Request.{Request}
 use Rattle.kb_world.specs.declared.roots.Roots.{Roots}
 use Rattle.kb_world.specs.declared.job.Key.{Key}
 use Rattle.kb_world.specs.declared.job.Host.{Host}
 use Rattle.kb_world.specs.declared.refusal.Refusal.{Refusal}
 use Rattle.kb_world.specs.declared.refusal.Refusal.TheVariants as refusal
+use Rattle.kb_changes.specs.Change.{requests_of}
+use Rattle.kb_changes.specs.declared.change.Intent.{Intent}
 use Rattle.kb_words.specs.declared.command.Command.{Command}
 use Rattle.kb_words.specs.declared.command.Command.TheVariants as command
 use Rattle.kb_words.specs.Words.{Word}
@@ -33,6 +37,38 @@ known_arch arch = cond (is_arch arch) arch (codes "unknown")
 abbrev pub known_host : Host → Host
 known_host host = record { kernel = known_kernel host.kernel; arch = known_arch host.arch; roots = host.roots }
 
+-- ---- what is told of a recovery, by the words of the journal that was ended, if one was
+
+-- the words, a space between each two, in a line
+abbrev pub recovered_line : List Word → List ℕ
+recovered_line words = codes "recovered: " ++ join_by (λ word. word) (codes " ") words ++ codes "\n"
+
+-- on standard output
+abbrev pub recovery_printed : Option (List Word) → List ℕ
+recovery_printed None = codes "nothing to recover\n"
+recovery_printed (Some words) = recovered_line words
+
+-- on standard error
+abbrev pub recovery_warned : Option (List Word) → List ℕ
+recovery_warned None = []
+recovery_warned (Some words) = recovered_line words
+
+-- the command asks for a recovery alone
+abbrev pub asks_recovery : Command → Bool
+asks_recovery command.Help = false
+asks_recovery command.Recover = true
+asks_recovery (command.Add key) = false
+
+-- words were read as that command
+abbrev pub is_recovery : {E : Type 0} → Result Command E → Bool
+is_recovery (Ok it) = asks_recovery it
+is_recovery (Err error) = false
+
+-- a recovery is told: it is printed where the words ask for it, and else standard error has its line
+abbrev pub telling : Option (List Word) → Bool → Action
+telling found true = print (recovery_printed found)
+telling found false = warn (recovery_warned found)
+
 -- ---- commands
 
 -- a root that the command needs isn't a directory
@@ -47,27 +83,43 @@ no_roots_of_add roots = no_root roots.dkms or no_root roots.src
 abbrev pub add_to_store : Host → Script → Key → Action
 add_to_store host script key = reads (read_of host.roots) (λ store. add host script key)
 
+abbrev pub perform_add : Host → Script → Key → Action
+perform_add host script key = unless (no_roots_of_add host.roots) then add_to_store host script key
+
+-- a recovery is done and told before
 abbrev pub perform : Host → Script → Command → Action
 perform host script command.Help = print help_text
-perform host script (command.Add key) = unless (no_roots_of_add host.roots) then add_to_store host script key
+perform host script command.Recover = print []
+perform host script (command.Add key) = perform_add host script key
 
 abbrev pub perform_read : Host → Script → Result Command Refusal → Action
 perform_read host script (Ok it) = perform host script it
 perform_read host script (Err why) = refuse_if (Some why)
 
--- the words are read, and then what they are is done
-abbrev pub machine : Host → Script → List Word → Action
-machine host script words = perform_read (known_host host) script (reading words)
+-- The recovery is told, of which these are the words, and then what the words are is done.
+abbrev pub machine : Host → Script → List Word → Option (List Word) → Action
+machine host script words found = telling found (is_recovery (reading words)) then perform_read (known_host host) script (reading words)
 
--- whatever stands where a journal would stand damages everything
-abbrev pub standing_intent : Roots → Tree → Option Refusal
-standing_intent roots tree = cond (is_some (node_at tree (intent_path roots))) (Some (refusal.Damaged (intent_path roots))) None
+-- ---- the whole call, which begins with a recovery
 
--- refused where a journal's place is taken, else what the words do
-abbrev pub by_intent : Host → Script → List Word → Tree → Option Refusal → Outcome
-by_intent host script words tree None = machine host script words (public_tree host.roots tree) (foreign_tree host.roots tree)
-by_intent host script words tree (Some why) = refuse_if (Some why) (public_tree host.roots tree) (foreign_tree host.roots tree)
+-- the words of the journal that was found
+abbrev pub words_of : Option Intent → Option (List Word)
+words_of found = option_map (λ (intent : Intent). intent.words) found
 
--- what words do to a tree
-abbrev pub outcome_of : Host → Script → List Word → Tree → Outcome
-outcome_of host script words tree = by_intent host script words tree (standing_intent host.roots tree)
+-- the requests of its children over the tree in which it stood
+abbrev pub requests_found : Roots → Script → Option Intent → Tree → List Request
+requests_found roots script None tree = []
+requests_found roots script (Some intent) tree = requests_of roots script intent.changes tree
+
+-- an outcome, where these children ran before
+abbrev pub behind : List Request → Outcome → Outcome
+behind requests outcome = record outcome { requests = requests ++ outcome.requests }
+
+-- What words do to a tree: the children of the journal run, and then the machine goes on from the tree that is ready.
+abbrev pub outcome_of : Host → Script → List Word → Tree → Tree → Option Intent → Outcome
+outcome_of host script words tree ready found =
+    behind (requests_found host.roots script found tree) (machine host script words (words_of found) (public_tree host.roots ready) (foreign_tree host.roots ready))
+
+-- they are refused where what stands at the journal's path is damaged
+abbrev pub damaged_outcome : Roots → Tree → Outcome
+damaged_outcome roots tree = refuse_if (Some (refusal.Damaged (intent_path roots))) (public_tree roots tree) (foreign_tree roots tree)

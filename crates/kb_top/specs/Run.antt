@@ -1,9 +1,8 @@
 -- What the top call does to the world and to its two sinks. This project's own.
-use Rattle.std.specs.Prelude.{◌≡◌, ◌⊎◌, ℕ, ◌≤◌, List, ◌++◌, take, Option, Some, None, true, is_some, IsTrue}
-use Rattle.std.specs.Option.{ForSome}
-use Rattle.kb_world.specs.Tree.{Tree, node_at}
-use Rattle.kb_world.specs.Public.{public_tree, intent_path}
-use Rattle.kb_world.specs.State.{State, Rose, Lasts}
+use Rattle.std.specs.Prelude.{◌≡◌, ◌⊎◌, ℕ, ◌≤◌, List, ◌∷◌, ◌++◌, take, Option, Some, None, is_some, IsTrue}
+use Rattle.kb_world.specs.Tree.{Tree}
+use Rattle.kb_world.specs.Public.{public_tree}
+use Rattle.kb_world.specs.State.{State, Rose, Lasts, LeftSince, Unchanged}
 use Rattle.kb_world.specs.SinkState.{SinkState, grown}
 use Rattle.kb_world.specs.Refusal.{message_of, number_of, fault_line, no_memory_line}
 use Rattle.kb_world.specs.Outcome.{Outcome, last_of}
@@ -11,10 +10,12 @@ use Rattle.kb_world.specs.Does.{IsTreeOf}
 use Rattle.kb_world.specs.declared.roots.Roots.{Roots}
 use Rattle.kb_world.specs.declared.job.Host.{Host}
 use Rattle.kb_world.specs.declared.refusal.Refusal.{Refusal}
+use Rattle.kb_machine.specs.Stands.{Stands, Rests, OpensOneOf, StandsOneOf}
+use Rattle.kb_words.specs.Words.{Word}
 use Rattle.kb_top.specs.declared.end.End.{End}
 use Rattle.kb_top.specs.declared.end.End.TheVariants as end
-use Rattle.kb_words.specs.Words.{Word}
-use Rattle.kb_top.specs.Machine.{outcome_of}
+use Rattle.kb_top.specs.Machine.{outcome_of, damaged_outcome}
+use Rattle.kb_top.specs.Serve.{ForReady, ForDamaged}
 
 -- the exit status
 abbrev pub code_of : End → ℕ
@@ -85,6 +86,22 @@ IsEndOf roots store outcome old new end.Fault = Unit {0}
 IsEndOf roots store outcome old new end.BadRoot = ⊥
 IsEndOf roots store outcome old new end.BadBoot = ⊥
 
+-- How the call leaves the world: with its answer, and also where a sink failed, nothing is under way, and the store is the last one;
+-- a fault and want of memory leave one of the stores standing.
+abbrev pub LeavesAtEnd : Roots → Tree → List Tree → State → End → Type 0
+LeavesAtEnd roots store after new end.Done = Rests roots (last_of store after) new
+LeavesAtEnd roots store after new (end.Refused why) = Rests roots (last_of store after) new
+LeavesAtEnd roots store after new end.SinkFault = Rests roots (last_of store after) new
+LeavesAtEnd roots store after new end.NoMemory = StandsOneOf roots (store ∷ after) new
+LeavesAtEnd roots store after new end.Fault = StandsOneOf roots (store ∷ after) new
+LeavesAtEnd roots store after new end.BadRoot = ⊥
+LeavesAtEnd roots store after new end.BadBoot = ⊥
+
+-- Whatever a crash since the start may leave opens one of the stores.
+pub record RunSurvives (roots : Roots) (store : Tree) (outcome : Outcome) (old new : State) (result : End) : Type 0 where
+  pub opens : (image : Tree) → LeftSince old new image → OpensOneOf roots old.script (store ∷ outcome.after) image
+  pub leaves : LeavesAtEnd roots store outcome.after new result
+
 -- The outside failed: the count says so, nothing went to standard output, and a front of the fixed line to the other.
 pub record IsFaulted (old new : Outside) : Type 0 where
   pub rose : Rose old.world.faults new.world.faults
@@ -110,11 +127,15 @@ pub record CountsStay (old new : Outside) : Type 0 where
 
 -- The clause of the top call.
 pub record RunsCommand (host : Host) (words : List Word) (old new : Outside) (result : End) : Type 0 where
-  -- over a told tree, of a world whose roots are the host's, it equals the command machine
-  pub ends : ForSome old.world.tree (λ tree. old.world.roots ≡ host.roots →
-      IsEndOf host.roots (public_tree host.roots tree) (outcome_of host old.world.script words tree) old new result)
-  -- where anything stands in the place of a journal, nothing is changed and no child is run
-  pub damaged : ForSome old.world.tree (λ tree. is_some (node_at tree (intent_path host.roots)) ≡ true → (new.world.tree ≡ old.world.tree) × (new.world.ran ≡ old.world.ran))
+  -- over a told tree it ends its journal, and equals the command machine from there on
+  pub ends : ForReady host.roots old.world (λ tree ready found.
+      IsEndOf host.roots (public_tree host.roots ready) (outcome_of host old.world.script words tree ready found) old new result)
+  -- where what stands at the journal's path is damaged it is refused so, and whatever it answers nothing is changed
+  pub refused : ForDamaged host.roots old.world (λ tree. IsEndOf host.roots (public_tree host.roots tree) (damaged_outcome host.roots tree) old new result)
+  pub damaged : ForDamaged host.roots old.world (λ tree. Unchanged old.world new.world)
+  -- where a store stands at the start, a crash at any moment leaves it or one of the machine's
+  pub survives : ForReady host.roots old.world (λ tree ready found. (store : Tree) → Stands host.roots store old.world
+      → RunSurvives host.roots store (outcome_of host old.world.script words tree ready found) old.world new.world result)
   -- it ends with a fault only where the outside's count rose, and says only the fixed line then
   pub fault : result ≡ end.Fault → IsFaulted old new
   -- and with a sink's fault only where a sink's count rose

@@ -1,22 +1,40 @@
 -- What a command does to the world, and what it has to say of it. This project's own.
-use Rattle.std.specs.Prelude.{◌≡◌, List, Result, true, is_some}
+use Rattle.std.specs.Prelude.{List, Option, Result}
 use Rattle.std.specs.Option.{ForSome}
-use Rattle.kb_world.specs.Tree.{node_at}
-use Rattle.kb_world.specs.Public.{intent_path, public_tree}
-use Rattle.kb_world.specs.State.{State, HasCause, Lasts}
+use Rattle.kb_world.specs.Tree.{Tree}
+use Rattle.kb_world.specs.Public.{public_tree}
+use Rattle.kb_world.specs.State.{State, HasCause, Lasts, Unchanged}
 use Rattle.kb_world.specs.Does.{Answers}
+use Rattle.kb_world.specs.declared.roots.Roots.{Roots}
 use Rattle.kb_world.specs.declared.job.Host.{Host}
 use Rattle.kb_world.specs.declared.job.Report.{Report}
 use Rattle.kb_world.specs.declared.stop.Stop.{Stop}
 use Rattle.kb_world.specs.declared.stop.Stop.TheVariants.{Fault}
+use Rattle.kb_changes.specs.declared.change.Intent.{Intent}
+use Rattle.kb_machine.specs.Across.{Survives}
+use Rattle.kb_machine.specs.Opens.{IsReady}
+use Rattle.kb_machine.specs.Stands.{Stands}
+use Rattle.kb_intent.specs.Recover.{HasDamagedJournal}
 use Rattle.kb_words.specs.Words.{Word}
-use Rattle.kb_top.specs.Machine.{outcome_of}
+use Rattle.kb_top.specs.Machine.{outcome_of, damaged_outcome}
 
--- The world and the report after it are those of the words' outcome, where the host's roots are the world's.
+-- of a told tree, of the tree that it is once its journal is ended, and of the journal's intent, if one stood
+abbrev pub ForReady : Roots → State → (Tree → Tree → Option Intent → Type 0) → Type 0
+ForReady roots old Has = ForSome old.tree (λ tree. (ready : Tree) (found : Option Intent) → IsReady roots old.script tree ready found → Has tree ready found)
+
+-- of a told tree at whose journal's path stands what isn't a journal
+abbrev pub ForDamaged : Roots → State → (Tree → Type 0) → Type 0
+ForDamaged roots old Has = ForSome old.tree (λ tree. HasDamagedJournal roots tree → Has tree)
+
 pub record Serves (host : Host) (words : List Word) (old new : State) (before after : Report) (result : Result (Unit {0}) Stop) : Type 0 where
-  pub answers : ForSome old.tree (λ tree. old.roots ≡ host.roots →
-      Answers host.roots (public_tree host.roots tree) (outcome_of host old.script words tree) result old new before after)
-  -- where anything stands in the place of a journal, nothing is changed and no child is run
-  pub damaged : ForSome old.tree (λ tree. is_some (node_at tree (intent_path host.roots)) ≡ true → (new.tree ≡ old.tree) × (new.ran ≡ old.ran))
+  -- the world and the report after it are those of the words' outcome
+  pub answers : ForReady host.roots old (λ tree ready found.
+      Answers host.roots (public_tree host.roots ready) (outcome_of host old.script words tree ready found) result old new before after)
+  -- a damaged journal is refused, and then nothing is changed
+  pub refused : ForDamaged host.roots old (λ tree. Answers host.roots (public_tree host.roots tree) (damaged_outcome host.roots tree) result old new before after)
+  pub damaged : ForDamaged host.roots old (λ tree. Unchanged old new)
+  -- where a store stands, a crash leaves it or one of the outcome's
+  pub survives : ForReady host.roots old (λ tree ready found. (store : Tree) → Stands host.roots store old
+      → Survives host.roots store (outcome_of host old.script words tree ready found) old new result)
   pub lasts : Lasts old new
   pub cause : HasCause Fault old new result

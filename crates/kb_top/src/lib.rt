@@ -4,6 +4,7 @@
 mod call;
 mod end;
 mod laws;
+mod recovery;
 mod serve;
 mod setting;
 mod tell;

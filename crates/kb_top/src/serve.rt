@@ -1,16 +1,20 @@
 // A command, from its words to its report.
-ghost use Rattle.std.specs.Prelude.{◌≡◌, IfOk, IsTrue, true};
+ghost use Rattle.std.specs.Prelude.{◌≡◌, IfOk, IsTrue, None, true};
 ghost use Rattle.std.specs.Option.{ForSome};
 ghost use Rattle.kb_world.specs.Public.{intent_path};
 ghost use Rattle.kb_world.specs.Roots.{AreApart};
 ghost use Rattle.kb_world.specs.Store.{is_key};
 ghost use Rattle.kb_world.specs.Tree.{node_at, is_dir};
-ghost use Rattle.kb_world.specs.Does.{Decides, Does};
+ghost use Rattle.kb_world.specs.Does.{Decides};
+ghost use Rattle.kb_machine.specs.Across.{DoesAcrossCrashes};
 ghost use Rattle.kb_dkms.specs.Host.{host_keeps_rules};
 ghost use Rattle.kb_words.specs.Words as words;
-ghost use Rattle.kb_top.specs.Machine.{no_root, standing_intent, no_roots_of_add, help_text, known_kernel, known_arch, known_host, add_to_store, perform};
+ghost use Rattle.kb_top.specs.Machine.{no_root, no_roots_of_add, help_text, known_kernel, known_arch, known_host, add_to_store, perform_add, perform, machine};
 ghost use Rattle.kb_top.specs.Serve.{Serves};
+ghost use Rattle.kb_top.specs.Telling.{words_found};
 
+use crate::recovery::tell_recovery;
+use kb_intent::{Recovered, recover};
 use kb_store::Store;
 use kb_words::{Command, read_words};
 use kb_world::{
@@ -24,17 +28,6 @@ fn help() -> &'static str
     ensures { result.now ≡ help_text }
 {
     "usage: kmodboot COMMAND\ncommands: dkms, kernel-install, kernel-hook, recover, selftest, help\n"
-}
-
-// Refused where anything stands in the place of a journal.
-fn require_no_intent<W: World>(alloc: Global, world: &mut W, roots: &Roots) -> Result<(), Stop>
-    ensures { Decides (standing_intent roots.now) (W.state world.old) (W.state world.new) result }
-{
-    let path = roots.dkms.child(alloc, ".intent")?;
-    match world.look(alloc, &path)? {
-        Kind::Absent => Ok(()),
-        _ => Err(Stop::Refused(Refusal::Damaged { path })),
-    }
 }
 
 // Refused where a root that the command needs isn't a directory.
@@ -113,14 +106,41 @@ fn add_to_store<W: World>(
     requires named { IsTrue (is_key key.now) }
     requires known { IsTrue (host_keeps_rules job.now.host) }
     requires apart { AreApart job.now.host.roots }
+    requires rooted { ForSome (W.state world.old).tree (λ tree. (W.state world.old).roots ≡ job.now.host.roots) }
     requires root { ForSome (W.state world.old).tree (λ tree. is_dir (node_at tree job.now.host.roots.dkms) ≡ true) }
-    ensures { Does job.now.host.roots (add_to_store job.now.host (W.state world.old).script key.now) (W.state world.old) (W.state world.new) report.old report.new result }
+    requires bare { ForSome (W.state world.old).tree (λ tree. node_at tree (intent_path job.now.host.roots) ≡ None) }
+    ensures { DoesAcrossCrashes job.now.host.roots (add_to_store job.now.host (W.state world.old).script key.now) (W.state world.old) (W.state world.new) report.old report.new result }
 {
-    let _store = Store::read(alloc, world, &job.host.roots)?;
+    let _store = match Store::read(alloc, world, &job.host.roots) {
+        Ok(store) => store,
+        Err(stop) => return Err(stop),
+    };
     kb_dkms::add(alloc, world, job, report, key)
 }
 
-// Does a command whose names keep their rules.
+// `dkms add` of a package.
+fn perform_add<W: World>(
+    alloc: Global,
+    world: &mut W,
+    job: &Job,
+    report: &mut Report,
+    key: &Key,
+) -> Result<(), Stop>
+    requires named { IsTrue (is_key key.now) }
+    requires known { IsTrue (host_keeps_rules job.now.host) }
+    requires apart { AreApart job.now.host.roots }
+    requires rooted { ForSome (W.state world.old).tree (λ tree. (W.state world.old).roots ≡ job.now.host.roots) }
+    requires bare { ForSome (W.state world.old).tree (λ tree. node_at tree (intent_path job.now.host.roots) ≡ None) }
+    ensures { DoesAcrossCrashes job.now.host.roots (perform_add job.now.host (W.state world.old).script key.now) (W.state world.old) (W.state world.new) report.old report.new result }
+{
+    match require_roots_of_add(alloc, world, &job.host.roots) {
+        Ok(()) => {}
+        Err(stop) => return Err(stop),
+    }
+    add_to_store(alloc, world, job, report, key)
+}
+
+// Does a command whose names keep their rules, where no journal stands.
 fn perform<W: World>(
     alloc: Global,
     world: &mut W,
@@ -131,18 +151,53 @@ fn perform<W: World>(
     requires named { words.names_keep_rules command.now ≡ true }
     requires known { IsTrue (host_keeps_rules job.now.host) }
     requires apart { AreApart job.now.host.roots }
-    ensures { Does job.now.host.roots (perform job.now.host (W.state world.old).script command.now) (W.state world.old) (W.state world.new) report.old report.new result }
+    requires rooted { ForSome (W.state world.old).tree (λ tree. (W.state world.old).roots ≡ job.now.host.roots) }
+    requires bare { ForSome (W.state world.old).tree (λ tree. node_at tree (intent_path job.now.host.roots) ≡ None) }
+    ensures { DoesAcrossCrashes job.now.host.roots (perform job.now.host (W.state world.old).script command.now) (W.state world.old) (W.state world.new) report.old report.new result }
 {
     match command {
-        Command::Help => Ok(report.out.push(help().as_bytes())?),
-        Command::Add { key } => {
-            require_roots_of_add(alloc, world, &job.host.roots)?;
-            add_to_store(alloc, world, job, report, key)
-        }
+        Command::Help => match report.out.push(help().as_bytes()) {
+            Ok(()) => Ok(()),
+            Err(_) => Err(Stop::NoMemory),
+        },
+        // That is done by now, and told.
+        Command::Recover => Ok(()),
+        Command::Add { key } => perform_add(alloc, world, job, report, key),
     }
 }
 
-/// Reads the words and does what they say, unless something stands in the place of a journal.
+// Tells of the recovery that came first, and does what the words say.
+fn serve_words<W: World>(
+    alloc: Global,
+    words: &[Text],
+    host: &Host,
+    world: &mut W,
+    report: &mut Report,
+    found: &Option<Recovered>,
+) -> Result<(), Stop>
+    requires apart { AreApart host.now.roots }
+    requires rooted { ForSome (W.state world.old).tree (λ tree. (W.state world.old).roots ≡ host.now.roots) }
+    requires bare { ForSome (W.state world.old).tree (λ tree. node_at tree (intent_path host.now.roots) ≡ None) }
+    ensures { DoesAcrossCrashes host.now.roots (machine host.now (W.state world.old).script words.now (words_found found.now)) (W.state world.old) (W.state world.new) report.old report.new result }
+{
+    let read = read_words(alloc, words, host);
+    match tell_recovery(report, &read, found) {
+        Ok(()) => {}
+        Err(_) => return Err(Stop::NoMemory),
+    }
+    let command = match read {
+        Ok(command) => command,
+        Err(stop) => return Err(stop),
+    };
+    let job = match job_of(alloc, words, host) {
+        Ok(job) => job,
+        Err(_) => return Err(Stop::NoMemory),
+    };
+    perform(alloc, world, &job, report, &command)
+}
+
+/// Ends the transaction of a journal that stands, and then does what the words say. A damaged journal is refused before
+/// the words are read.
 pub fn serve<W: World>(
     alloc: Global,
     words: &[Text],
@@ -150,11 +205,12 @@ pub fn serve<W: World>(
     world: &mut W,
     report: &mut Report,
 ) -> Result<(), Stop>
-    requires { AreApart host.now.roots }
+    requires apart { AreApart host.now.roots }
+    requires rooted { ForSome (W.state world.old).tree (λ tree. (W.state world.old).roots ≡ host.now.roots) }
     ensures { Serves host.now words.now (W.state world.old) (W.state world.new) report.old report.new result }
 {
-    require_no_intent(alloc, world, &host.roots)?;
-    let command = read_words(alloc, words, host)?;
-    let job = job_of(alloc, words, host)?;
-    perform(alloc, world, &job, report, &command)
+    match recover(alloc, world, &host.roots) {
+        Ok(found) => serve_words(alloc, words, host, world, report, &found),
+        Err(stop) => Err(stop),
+    }
 }
