@@ -1,5 +1,5 @@
 -- What a recovery leaves is the tree that is ready, and the call goes on from there.
-use Rattle.std.proofs.Common.{◌≡◌, ℕ, Bool, true, false, cond, not, ◌||◌, List, [], ◌∷◌, ◌++◌, Option, Some, None, refl, sym, ap, ◌∙◌, subst, inl, append_assoc}
+use Rattle.std.proofs.Common.{◌≡◌, true, false, cond, not, ◌||◌, List, [], ◌∷◌, ◌++◌, Option, Some, None, is_some, refl, sym, ap, ◌∙◌, subst, inl, append_assoc}
 use Rattle.std.specs.Prelude.{Result, Ok, Err}
 use Rattle.std.specs.List.{list_any}
 use Rattle.std.specs.Option.{ForSome}
@@ -10,22 +10,20 @@ use Rattle.kb_world.specs.Outcome.{Outcome}
 use Rattle.kb_world.specs.Public.{intent_path, staging_path, public_tree, foreign_tree}
 use Rattle.kb_world.specs.Path.{is_under}
 use Rattle.kb_world.specs.Script.{Script}
-use Rattle.kb_world.specs.State.{State, Unchanged}
+use Rattle.kb_world.specs.State.{State, HasCause, Lasts}
 use Rattle.kb_world.specs.Tree.{Tree, node_at, file_bytes}
 use Rattle.kb_world.specs.TreeLaws.{node_at-retain}
 use Rattle.kb_world.specs.declared.job.Host.{Host}
 use Rattle.kb_world.specs.declared.job.Report.{Report}
-use Rattle.kb_world.specs.declared.refusal.Refusal.{Refusal}
 use Rattle.kb_world.specs.declared.refusal.Refusal.TheVariants as refusal
 use Rattle.kb_world.specs.declared.child.Request.{Request}
 use Rattle.kb_world.specs.declared.roots.Roots.{Roots}
 use Rattle.kb_world.specs.declared.stop.Stop.{Stop}
 use Rattle.kb_world.specs.declared.stop.Stop.TheVariants.{Refused, Fault, NoMemory}
-use Rattle.kb_world.specs.declared.tree.Node.{Node}
 use Rattle.kb_world.specs.declared.tree.Node.TheVariants as nodes
 use Rattle.kb_world.proofs.CrashLaws.{adds_then, adds_wider}
 use Rattle.kb_world.proofs.PathLaws.{under-self}
-use Rattle.kb_world.proofs.DoesLaws.{cause_then, cause_other, lasts_then}
+use Rattle.kb_world.proofs.DoesLaws.{cause_then, lasts_then}
 use Rattle.kb_world.proofs.ThenLaws.{stays_refused}
 use Rattle.kb_changes.specs.Change.{done}
 use Rattle.kb_changes.specs.Text.{IsJournal}
@@ -33,7 +31,7 @@ use Rattle.kb_changes.specs.Valid.{is_kept_out}
 use Rattle.kb_changes.specs.declared.change.Intent.{Intent}
 use Rattle.kb_changes.specs.declared.change.Recovered.{Recovered}
 use Rattle.kb_journal.proofs.IntentLaws.{one_journal}
-use Rattle.kb_machine.specs.Across.{Survives, DoesAcrossCrashes}
+use Rattle.kb_machine.specs.Across.{Survives, LeavesStanding, DoesAcrossCrashes}
 use Rattle.kb_machine.specs.Commits.{cleaned}
 use Rattle.kb_machine.specs.Opens.{IsReady, at_rest, recovers, Opens}
 use Rattle.kb_machine.specs.Stands.{Stands, Rests, OpensOneOf}
@@ -107,13 +105,22 @@ cleaned_bare roots tree = node_at-retain tree (λ path. not (is_kept_out roots p
     kept : is_kept_out roots (intent_path roots) ≡ true
     kept = ap (λ b. b || list_any (is_under (intent_path roots)) (staging_path roots.dkms ∷ staging_path roots.src ∷ staging_path roots.modules ∷ staging_path roots.boot ∷ [])) (under-self (intent_path roots))
 
-pub left_bare : (roots : Roots) (old mid : State) (said : Option Recovered) → Recovers roots old mid (Ok said) → (told : (tree : Tree) → mid.tree ≡ Some tree → (was : Tree) × (old.tree ≡ Some was))
-    → ForSome mid.tree (λ tree. node_at tree (intent_path roots) ≡ None)
-left_bare roots old mid said r before now told = let was = before now told in by said (r.found was.0 was.1)
+-- a tree that is told now was told
+was_told : (old new : Option Tree) (tree : Tree) → is_some new ≡ is_some old → new ≡ Some tree → (was : Tree) × (old ≡ Some was)
+was_told (Some was) new tree same told = (was, refl)
+was_told None new tree same told = let impossible : true ≡ false = sym (ap is_some told) ∙ same in absurd (cc)
+
+pub left_rooted : (roots : Roots) (old mid : State) → ForSome old.tree (λ tree. old.roots ≡ roots) → Lasts old mid → ForSome mid.tree (λ tree. mid.roots ≡ roots)
+left_rooted roots old mid rooted lasts now told = let was = was_told old.tree mid.tree now lasts.told told in lasts.roots ∙ rooted was.0 was.1
+
+pub left_bare : (roots : Roots) (old mid : State) (said : Option Recovered) → Recovers roots old mid (Ok said) → ForSome mid.tree (λ tree. node_at tree (intent_path roots) ≡ None)
+left_bare roots old mid said r now told = let was = was_told old.tree mid.tree now r.lasts.told told in by was.0 was.1 said (r.found was.0 was.1)
   where
-    by : (s : Option Recovered) → Found roots old mid (before now told).0 s → node_at now (intent_path roots) ≡ None
-    by None f = ap (λ t. node_at t (intent_path roots)) (some_same now (before now told).0 (sym told ∙ f.unchanged.tree ∙ (before now told).1)) ∙ f.bare
-    by (Some recovered) f = ap (λ t. node_at t (intent_path roots)) (some_same now _ (sym told ∙ f.committed.tree)) ∙ cleaned_bare roots _
+    by : (was : Tree) → old.tree ≡ Some was → (s : Option Recovered) → Found roots old mid was s → node_at now (intent_path roots) ≡ None
+    by was before None f = ap (λ t. node_at t (intent_path roots)) (some_same now was (sym told ∙ f.unchanged.tree ∙ before)) ∙ f.bare
+    by was before (Some recovered) f =
+        let ended : Tree = done roots old.script f.intent.changes was in
+        ap (λ t. node_at t (intent_path roots)) (some_same now (cleaned roots ended) (sym told ∙ f.committed.tree)) ∙ cleaned_bare roots ended
 
 -- what came about behind these children
 answers_behind : (roots : Roots) (store : Tree) (requests : List Request) (outcome : Outcome) (old mid new : State) (before after : Report) (result : Result (Unit {0}) Stop) → mid.ran ≡ old.ran ++ requests
@@ -194,8 +201,22 @@ module _ (host : Host) (words : List Word) (old mid new : State) (said : Option 
 
 -- ---- the recovery stopped
 
-stopped : {T : Type 0} → Stop → Result T Stop
-stopped stop = Err stop
+abbrev before_words : Stop → Result (Option Recovered) Stop
+before_words stop = Err stop
+
+abbrev ended_so : Stop → Result (Unit {0}) Stop
+ended_so stop = Err stop
+
+same_fault : (stop : Stop) → ended_so stop ≡ ended_so Fault → before_words stop ≡ before_words Fault
+same_fault stop e = ap before_words (let same : stop ≡ Fault = cc in same)
+
+stop_cause : (old new : State) (stop : Stop) → HasCause Fault old new (before_words stop) → HasCause Fault old new (ended_so stop)
+stop_cause old new stop a = record {
+  later = a.later;
+  rose = λ failed. a.rose (same_fault stop failed);
+  steady = a.steady;
+  never = λ told is failed. a.never told is (same_fault stop failed);
+}
 
 pub serves_stopped : (host : Host) (words : List Word) (old new : State) (report : Report) (stop : Stop) → Recovers host.roots old new (Err stop) → Serves host words old new report report (Err stop)
 serves_stopped host words old new report stop r = record {
@@ -204,10 +225,10 @@ serves_stopped host words old new report stop r = record {
   damaged = r.damaged;
   survives = λ tree told ready found is store stands. record {
     each_moment = adds_wider (λ image. Opens host.roots old.script image store) _ old.history new.history (λ image o. (store, inl refl, o)) (r.survives tree told store stands).each_moment;
-    end = ?;
+    end = left stop tree ready found told is store (r.survives tree told store stands).stands r;
   };
   lasts = r.lasts;
-  cause = cause_other old new (Err stop) (Err stop) r.cause ?;
+  cause = stop_cause old new stop r.cause;
 }
   where
     answered : (s : Stop) (tree ready : Tree) (found : Option Intent) → old.tree ≡ Some tree → IsReady host.roots old.script tree ready found → Recovers host.roots old new (Err s)
@@ -215,6 +236,12 @@ serves_stopped host words old new report stop r = record {
     answered (Refused why) tree ready found told is r = absurd (never_ready host.roots old.script tree ready found ((r.refused why refl).damaged tree told) is)
     answered Fault tree ready found told is r = tt
     answered NoMemory tree ready found told is r = tt
+
+    left : (s : Stop) (tree ready : Tree) (found : Option Intent) → old.tree ≡ Some tree → IsReady host.roots old.script tree ready found → (store : Tree) → Stands host.roots store new → Recovers host.roots old new (Err s)
+        → LeavesStanding {T = Unit {0}} host.roots store (outcome_of host old.script words tree ready found).after (Err s) new
+    left (Refused why) tree ready found told is store stands r = absurd (never_ready host.roots old.script tree ready found ((r.refused why refl).damaged tree told) is)
+    left Fault tree ready found told is store stands r = (store, inl refl, stands)
+    left NoMemory tree ready found told is store stands r = (store, inl refl, stands)
 
     refused : (s : Stop) (tree : Tree) → old.tree ≡ Some tree → HasDamagedJournal host.roots tree → Recovers host.roots old new (Err s)
         → Answers {T = Unit {0}} host.roots (public_tree host.roots tree) (damaged_outcome host.roots tree) (Err s) old new report report

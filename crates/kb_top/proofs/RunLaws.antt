@@ -1,12 +1,14 @@
 -- The top call is a command and the writing of its report.
-use Rattle.std.proofs.Common.{◌≡◌, ◌⊎◌, ℕ, List, [], ◌++◌, Option, Some, None, refl, sym, ap, ◌∙◌, subst, inl, arith}
+use Rattle.std.proofs.Common.{◌≡◌, ◌⊎◌, ℕ, List, [], ◌∷◌, ◌++◌, Option, Some, None, refl, sym, ap, ◌∙◌, subst, inl, inr, arith}
 use Rattle.std.specs.Prelude.{Result, Ok, Err}
 use Rattle.kb_world.specs.Tree.{Tree}
 use Rattle.kb_world.specs.State.{State}
+use Rattle.kb_world.specs.Crash.{IsImageOfOne, LeftOf}
 use Rattle.kb_world.specs.SinkState.{SinkState}
 use Rattle.kb_world.specs.Public.{public_tree}
+use Rattle.kb_world.specs.Script.{Script}
 use Rattle.kb_world.specs.Refusal.{message_of, fault_line, no_memory_line}
-use Rattle.kb_world.specs.Outcome.{Outcome}
+use Rattle.kb_world.specs.Outcome.{Outcome, last_of}
 use Rattle.kb_world.specs.Does.{Answers}
 use Rattle.kb_world.specs.declared.roots.Roots.{Roots}
 use Rattle.kb_world.specs.declared.job.Host.{Host}
@@ -16,10 +18,16 @@ use Rattle.kb_world.specs.declared.stop.Stop.{Stop}
 use Rattle.kb_world.specs.declared.stop.Stop.TheVariants.{Refused, Fault, NoMemory}
 use Rattle.kb_top.specs.declared.end.End.{End}
 use Rattle.kb_top.specs.declared.end.End.TheVariants as end
+use Rattle.kb_world.proofs.CrashLaws.{moments_since-added}
+use Rattle.kb_world.proofs.DoesLaws.{unchanged_none}
+use Rattle.std.proofs.lemmas.List.{append-nil}
+use Rattle.kb_machine.specs.Across.{Survives, LeavesStanding}
+use Rattle.kb_machine.specs.Opens.{Opens}
+use Rattle.kb_machine.specs.Stands.{Stands, Rests, IsOneOf, OpensOneOf, StandsOneOf}
 use Rattle.kb_words.specs.Words.{Word}
-use Rattle.kb_top.specs.Machine.{outcome_of}
-use Rattle.kb_top.specs.Serve.{Serves}
-use Rattle.kb_top.specs.Run.{Outside, RunsCommand, IsEndOf, IsGivenUp, IsDone, WroteFront, Wrote, WroteNothing, err_text, with_line}
+use Rattle.kb_top.specs.Machine.{outcome_of, damaged_outcome}
+use Rattle.kb_top.specs.Serve.{Serves, ForReady, ForDamaged}
+use Rattle.kb_top.specs.Run.{Outside, RunsCommand, RunSurvives, LeavesAtEnd, IsEndOf, IsGivenUp, IsDone, WroteFront, Wrote, WroteNothing, err_text, with_line}
 use Rattle.kb_top.specs.Tell.{Sinks, Tells, TellsAs, FinishesAs, SinkFailed, SaysFront, with_message}
 
 -- the end of a command that is due to be refused so, or not
@@ -115,6 +123,63 @@ tells_no_setting report old new result (Err Fault) told =
 tells_no_setting report old new result (Err NoMemory) told =
     (λ e. let impossible : end.NoMemory ≡ end.BadRoot = sym told.0 ∙ e in cc, λ e. let impossible : end.NoMemory ≡ end.BadBoot = sym told.0 ∙ e in cc)
 
+-- ---- what a crash leaves
+
+last_is_one : (store : Tree) (after : List Tree) → IsOneOf (last_of store after) (store ∷ after)
+last_is_one store [] = inl refl
+last_is_one store (next ∷ after) = inr (last_is_one next after)
+
+module _ (roots : Roots) (store : Tree) (after : List Tree) (new : State) where
+  rests_one : Rests roots (last_of store after) new → StandsOneOf roots (store ∷ after) new
+  rests_one rests = (last_of store after, last_is_one store after, rests.stands)
+
+  -- whatever the command answered, one of the stores stands
+  one_stands : (answer : Result (Unit {0}) Stop) → LeavesStanding roots store after answer new → StandsOneOf roots (store ∷ after) new
+  one_stands (Ok u) rests = rests_one rests
+  one_stands (Err (Refused why)) rests = rests_one rests
+  one_stands (Err Fault) one = one
+  one_stands (Err NoMemory) one = one
+
+  leaves_finished : (due : End) (report : Report) (before behind : Sinks) (result : End) → FinishesAs due report before behind result → Rests roots (last_of store after) new → LeavesAtEnd roots store after new result
+  leaves_finished due report before behind end.Done f rests = rests
+  leaves_finished due report before behind (end.Refused why) f rests = rests
+  leaves_finished due report before behind end.SinkFault f rests = rests
+  leaves_finished due report before behind end.NoMemory f rests = rests_one rests
+  leaves_finished due report before behind end.Fault f rests = absurd f
+  leaves_finished due report before behind end.BadRoot f rests = absurd f
+  leaves_finished due report before behind end.BadBoot f rests = absurd f
+
+  leaves_told : (report : Report) (before behind : Sinks) (result : End) (answer : Result (Unit {0}) Stop) → TellsAs answer report before behind result → LeavesStanding roots store after answer new
+      → LeavesAtEnd roots store after new result
+  leaves_told report before behind result (Ok u) told left = leaves_finished end.Done report before behind result told left
+  leaves_told report before behind result (Err (Refused why)) told left = leaves_finished (end.Refused why) (with_message report why) before behind result told left
+  leaves_told report before behind result (Err Fault) told left = subst (LeavesAtEnd roots store after new) (sym told.0) left
+  leaves_told report before behind result (Err NoMemory) told left = subst (LeavesAtEnd roots store after new) (sym told.0) left
+
+-- a crash now opens one of the stores, where one of them stands
+opens_now : (roots : Roots) (script : Script) (stores : List Tree) (new : State) → new.script ≡ script → StandsOneOf roots stores new → (image : Tree) → LeftOf new.history.soft new.tree image → OpensOneOf roots script stores image
+opens_now roots script stores new same one image left = (one.0, one.1, subst (λ s. Opens roots s image one.0) same (one.2.opens image left))
+
+run_survives : (roots : Roots) (store : Tree) (outcome : Outcome) (old new : State) (before behind : Sinks) (report : Report) (answer : Result (Unit {0}) Stop) (result : End) → new.script ≡ old.script
+    → TellsAs answer report before behind result → Survives roots store outcome old new answer → RunSurvives roots store outcome old new result
+run_survives roots store outcome old new before behind report answer result same told s = record {
+  opens = λ image left. elim left [
+    | inl past ↦ s.each_moment.only image (subst (λ moments. IsImageOfOne moments image) (moments_since-added old.history new.history s.each_moment.moments s.each_moment.added) past)
+    | inr now ↦ opens_now roots old.script (store ∷ outcome.after) new same (one_stands roots store outcome.after new answer s.end) image now
+  ];
+  leaves = leaves_told roots store outcome.after new report before behind result answer told s.end;
+}
+
+-- nothing was done, and the store stands as it stood
+stays_standing : (roots : Roots) (store : Tree) (outcome : Outcome) (state : State) → Stands roots store state → RunSurvives roots store outcome state state end.NoMemory
+stays_standing roots store outcome state stands = record {
+  opens = λ image left. elim left [
+    | inl past ↦ absurd (subst (λ moments. IsImageOfOne moments image) (moments_since-added state.history state.history [] (sym (append-nil state.history.past))) past)
+    | inr now ↦ (store, inl refl, stands.opens image now)
+  ];
+  leaves = (store, inl refl, stands);
+}
+
 -- the whole call
 pub runs : (host : Host) (words : List Word) (old_world new_world : State) (old new : Sinks) (report : Report) (answer : Result (Unit {0}) Stop) (result : End)
     → Serves host words old_world new_world nothing_said report answer → Tells answer report old new result
@@ -122,11 +187,17 @@ pub runs : (host : Host) (words : List Word) (old_world new_world : State) (old 
 runs host words old_world new_world old new report answer result s t =
     let before : Outside = record { world = old_world; out = old.out; err = old.err } in
     let after : Outside = record { world = new_world; out = new.out; err = new.err } in
-    let ends : (tree : Tree) → old_world.tree ≡ Some tree → old_world.roots ≡ host.roots → IsEndOf host.roots (public_tree host.roots tree) (outcome_of host old_world.script words tree) before after result =
-    λ tree told rooted. ends_as host.roots (public_tree host.roots tree) (outcome_of host old_world.script words tree) before after report answer result (s.answers tree told rooted) t.ends in
+    let ends : ForReady host.roots old_world (λ tree ready found. IsEndOf host.roots (public_tree host.roots ready) (outcome_of host old_world.script words tree ready found) before after result) =
+    λ tree told ready found is.
+    ends_as host.roots (public_tree host.roots ready) (outcome_of host old_world.script words tree ready found) before after report answer result (s.answers tree told ready found is) t.ends in
+    let refused : ForDamaged host.roots old_world (λ tree. IsEndOf host.roots (public_tree host.roots tree) (damaged_outcome host.roots tree) before after result) =
+    λ tree told damage. ends_as host.roots (public_tree host.roots tree) (damaged_outcome host.roots tree) before after report answer result (s.refused tree told damage) t.ends in
     record {
       ends = ends;
+      refused = refused;
       damaged = s.damaged;
+      survives = λ tree told ready found is store stands.
+          run_survives host.roots store (outcome_of host old_world.script words tree ready found) old_world new_world old new report answer result s.lasts.script t.ends (s.survives tree told ready found is store stands);
       fault = λ is. let f = tells_fault report old new result answer t.ends is in record { rose = s.cause.rose f.0; out = f.1; err = f.2 };
       sink_fault = λ is. (tells_sink report old new result answer t.ends is).rose;
       world_keeps = record { steady = s.cause.steady; faultless = λ told steady is. s.cause.never told steady (tells_fault report old new result answer t.ends is).0 };
@@ -153,8 +224,10 @@ runs_from_empty host words old_world new_world old new out err report answer res
 pub runs_wanting : (host : Host) (words : List Word) (world : State) (out old_err new_err : SinkState) → SaysFront no_memory_line old_err new_err
     → RunsCommand host words (record { world = world; out = out; err = old_err }) (record { world = world; out = out; err = new_err }) end.NoMemory
 runs_wanting host words world out old_err new_err says = record {
-  ends = λ tree told rooted. record { out = inl refl; err = says.front };
-  damaged = λ tree told stands. (refl, refl);
+  ends = λ tree told ready found is. record { out = inl refl; err = says.front };
+  refused = λ tree told damage. record { out = inl refl; err = says.front };
+  damaged = λ tree told damage. unchanged_none world;
+  survives = λ tree told ready found is store stands. stays_standing host.roots store (outcome_of host world.script words tree ready found) world stands;
   fault = λ is. let impossible : end.NoMemory ≡ end.Fault = is in cc;
   sink_fault = λ is. let impossible : end.NoMemory ≡ end.SinkFault = is in cc;
   world_keeps = record { steady = λ is. is; faultless = λ told steady is. let impossible : end.NoMemory ≡ end.Fault = is in cc };

@@ -1,5 +1,5 @@
 -- What a command needs is public, and what it does is the machine's.
-use Rattle.std.proofs.Common.{◌≡◌, ℕ, Bool, true, false, cond, List, [], ◌++◌, Option, Some, None, refl, sym, ap, ◌∙◌, subst, arith}
+use Rattle.std.proofs.Common.{◌≡◌, ℕ, Bool, true, false, cond, List, [], Option, Some, None, refl, sym, ap, ◌∙◌, subst, arith}
 use Rattle.std.specs.Prelude.{Result, Ok, Err, codes}
 use Rattle.std.specs.Option.{option_or}
 use Rattle.std.specs.Cmp.Derive.{both_true}
@@ -11,7 +11,6 @@ use Rattle.kb_world.specs.State.{State}
 use Rattle.kb_world.specs.Public.{public_tree}
 use Rattle.kb_world.specs.Outcome.{refuse_if, print, ◌then◌}
 use Rattle.kb_world.specs.Read.{IsRead}
-use Rattle.kb_world.specs.Script.{Script}
 use Rattle.kb_world.specs.declared.roots.Roots.{Roots}
 use Rattle.kb_world.specs.declared.job.Host.{Host}
 use Rattle.kb_world.specs.declared.job.Report.{Report}

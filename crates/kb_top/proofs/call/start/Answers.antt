@@ -5,6 +5,9 @@ use Rattle.kb_world.specs.Refusal.{no_memory_line, bad_root_line, bad_boot_line}
 use Rattle.kb_top.proofs.StartLaws.{says_line, starts_good, starts_bad_root, starts_bad_boot, starts_wanting}
 use Rattle.kb_top.proofs.call.start.Goals as goal
 
+pub run-requires-clause-rooted : goal.run-requires-clause-rooted
+run-requires-clause-rooted g c = c.requires c.in-Ok.host c.in-Ok.ensures.host
+
 pub returns-in-Ok : goal.returns-in-Ok
 returns-in-Ok g c = starts_good c.args.setting.now c.in-Ok.host c.args.words.now _ _ c.run.result c.in-Ok.ensures.host c.run.ensures
 

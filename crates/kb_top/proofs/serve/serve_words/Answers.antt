@@ -1,5 +1,5 @@
 -- The recovery is told, and then the words are done.
-use Rattle.std.proofs.Common.{◌≡◌, Ok, Err, ap, subst, ◌∙◌}
+use Rattle.std.proofs.Common.{◌≡◌, ap, subst, ◌∙◌}
 use Rattle.std.specs.Prelude.{Result}
 use Rattle.kb_world.specs.Read.{IsRead}
 use Rattle.kb_world.specs.declared.job.Host.{Host}
