@@ -1,53 +1,38 @@
 -- A change is done: what the operations and children of a world make of it.
-use Rattle.std.proofs.Common.{◌≡◌, ◌⊎◌, ℕ, Bool, true, false, cond, ◌&&◌, ◌||◌, not, List, [], ◌∷◌, ◌++◌, map, Option, Some, None, is_some, Result, Ok, Err, refl, sym, ap, ◌∙◌, subst, inl, inr, arith, codes, append_assoc, append-nil}
-use Rattle.std.specs.Prelude.{option_map, IsErrOf, IsTrue, OnOk, IfOk}
+use Rattle.std.proofs.Common.{◌≡◌, ℕ, Bool, true, false, ◌&&◌, ◌||◌, [], ◌∷◌, ◌++◌, map, Some, None, Result, Ok, Err, refl, sym, ap, ◌∙◌, subst, inl, arith, codes, append_assoc, append-nil}
+use Rattle.std.specs.Prelude.{option_map}
 use Rattle.std.specs.List.{list_any}
 use Rattle.std.specs.Option.{ForSome}
-use Rattle.std.specs.Cmp.{first_so, second_so}
+use Rattle.std.specs.Cmp.{second_so}
 use Rattle.std.specs.Cmp.Derive.{both_true}
-use Rattle.kb_world.specs.Area.{is_named, holds, lets_differ, is_soft_at, IsLeft}
-use Rattle.kb_world.specs.Crash.{History, LeftOf, Adds}
-use Rattle.kb_world.specs.Path.{Path, child, parent, is_under}
-use Rattle.kb_world.specs.Public.{staging_path}
+use Rattle.kb_world.specs.Area.{IsLeft}
+use Rattle.kb_world.specs.Crash.{Adds}
+use Rattle.kb_world.specs.Path.{Path}
 use Rattle.kb_world.specs.Roots.{is_below, share_root, based_roots}
-use Rattle.kb_world.specs.Script.{Script, answer_in, tree_after, after_edits, with_edit, can_edit, edit_of, copied}
-use Rattle.kb_world.specs.State.{State, Changes, Looks, HasCause, Lasts, RanNone, Runs, EndsAs, IsReplied, IsCutOff, IsGiven, IsNotBegun}
-use Rattle.kb_world.specs.Tree.{Tree, node_at, edited, is_dir, IsFormed}
-use Rattle.kb_world.specs.TreeLaws.{same_path, same_path-true, with_node-here, with_node-apart, remove-here, remove-apart}
-use Rattle.kb_world.specs.View.{view_of}
-use Rattle.kb_world.specs.declared.child.Area.{Area}
-use Rattle.kb_world.specs.declared.child.Area.TheVariants as areas
-use Rattle.kb_world.specs.declared.child.Effect.{Effect}
-use Rattle.kb_world.specs.declared.child.Effect.TheVariants as effects
-use Rattle.kb_world.specs.declared.child.Reply.{Reply}
-use Rattle.kb_world.specs.declared.child.Request.{Request}
+use Rattle.kb_world.specs.Script.{Script, answer_in}
+use Rattle.kb_world.specs.State.{State, HasCause}
+use Rattle.kb_world.specs.Tree.{Tree}
 use Rattle.kb_world.specs.declared.roots.Roots.{Roots}
-use Rattle.kb_world.specs.declared.tree.Edit.{Edit}
-use Rattle.kb_world.specs.declared.tree.Node.{Node}
-use Rattle.kb_world.specs.declared.tree.Node.TheVariants as nodes
 use Rattle.kb_world.specs.declared.world.WorldError.{WorldError}
 use Rattle.kb_world.specs.declared.world.WorldError.TheVariants.{Failed, NoMemory}
 use Rattle.kb_world.proofs.CrashLaws.{adds_none, adds_wider}
-use Rattle.kb_world.proofs.DoesLaws.{cause_then, lasts_then}
 use Rattle.kb_changes.specs.Change.{root_path, staged_path, do_change, request_at}
 use Rattle.kb_changes.specs.Valid.{is_changeable, is_well_placed}
 use Rattle.kb_changes.specs.declared.change.Change.{Change}
 use Rattle.kb_changes.specs.declared.change.Change.TheVariants as changes
 use Rattle.kb_changes.specs.declared.change.RootName.{RootName}
 use Rattle.kb_changes.specs.declared.change.RootName.TheVariants as root_name
-use Rattle.kb_walk.specs.Wipe.{Wipes, IsWipedInPart, LeftOfWipe, IsPartlyWiped, TakesAway, without_tree}
-use Rattle.kb_walk.proofs.WipeLaws.{cleared_at}
-use Rattle.kb_walk.proofs.WipeCalls.{HasFormedTree, cause_handed, done_not_failed}
+use Rattle.kb_walk.proofs.WipeCalls.{cause_handed, done_not_failed}
 use Rattle.kb_again.specs.Sparing.{areas_of}
 use Rattle.kb_again.specs.Within.{IsWithin}
 use Rattle.kb_world.specs.Steps.{tidied}
 use Rattle.std.specs.Fmt.{decimal}
 use Rattle.kb_walk.proofs.WalkLaws.{below_more}
-use Rattle.kb_intent.specs.Doing.{made_dir_at, dropped_leaf_at, put_staged_at, StepsTo, IsEitherOf, IsEitherNow, LeftOfEither, DoesChange, IsChanged, IsWithinNow, LeftWithin, said_by}
+use Rattle.kb_intent.specs.Doing.{made_dir_at, dropped_leaf_at, put_staged_at, StepsTo, IsEitherOf, DoesChange, IsWithinNow, LeftWithin}
 
 -- ---- the cause of a call that hands an answer on
 
-cause_of_ok : {A B : Type 0} (old new : State) (a : A) (b : B) → HasCause {T = A} Failed old new (Ok a) → HasCause {T = B} Failed old new (Ok b)
+pub cause_of_ok : {A B : Type 0} (old new : State) (a : A) (b : B) → HasCause {T = A} Failed old new (Ok a) → HasCause {T = B} Failed old new (Ok b)
 cause_of_ok old new a b c = record { later = c.later; rose = λ failed. absurd (done_not_failed b failed); steady = c.steady; never = λ told is failed. done_not_failed b failed }
 
 -- ---- changes that are one file operation

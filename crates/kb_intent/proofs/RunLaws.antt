@@ -1,6 +1,6 @@
 -- A wipe and a child as changes: what they leave where they are done, cut off, or passed over.
-use Rattle.std.proofs.Common.{◌≡◌, ◌⊎◌, ℕ, Bool, true, false, cond, ◌&&◌, ◌||◌, not, List, [], ◌∷◌, ◌++◌, map, Option, Some, None, Result, Ok, Err, refl, sym, ap, ◌∙◌, subst, inl, inr, append-nil}
-use Rattle.std.specs.Prelude.{option_map, IsTrue, OnOk, IfOk}
+use Rattle.std.proofs.Common.{◌≡◌, ◌⊎◌, Bool, true, false, cond, ◌&&◌, ◌||◌, not, List, [], ◌∷◌, ◌++◌, map, Option, Some, None, Result, Ok, Err, refl, sym, ap, ◌∙◌, subst, inl, inr, append-nil}
+use Rattle.std.specs.Prelude.{option_map, IfOk}
 use Rattle.std.specs.Option.{ForSome}
 use Rattle.std.specs.Cmp.{first_so, second_so}
 use Rattle.std.specs.Cmp.Derive.{both_true}
@@ -8,7 +8,7 @@ use Rattle.kb_world.specs.Area.{is_named, holds, lets_differ, IsLeft}
 use Rattle.kb_world.specs.Crash.{History, LeftOf, Adds}
 use Rattle.kb_world.specs.Path.{Path, parent, is_under}
 use Rattle.kb_world.specs.Script.{Script, answer_in, tree_after, after_edits, with_edit, can_edit, edit_of, copied}
-use Rattle.kb_world.specs.State.{State, Looks, HasCause, Runs, EndsAs, IsReplied, IsNotBegun, IsGiven}
+use Rattle.kb_world.specs.State.{State, Looks, HasCause, Runs, IsReplied}
 use Rattle.kb_world.specs.Tree.{Tree, node_at, edited, is_dir, IsFormed}
 use Rattle.kb_world.specs.TreeLaws.{same_path, same_path-true, same_path-refl, with_node-here, with_node-apart, remove-here, remove-apart}
 use Rattle.kb_world.specs.View.{view_of}
@@ -30,7 +30,7 @@ use Rattle.kb_world.proofs.LeftLaws.{left_same}
 use Rattle.kb_changes.specs.Change.{do_change, request_at}
 use Rattle.kb_changes.specs.declared.change.Change.{Change}
 use Rattle.kb_changes.specs.declared.change.Change.TheVariants as changes
-use Rattle.kb_walk.specs.Wipe.{IsWipedInPart, LeftOfWipe, TakesAway, without_tree}
+use Rattle.kb_walk.specs.Wipe.{IsWipedInPart, TakesAway, without_tree}
 use Rattle.kb_walk.proofs.WipeLaws.{cleared_at}
 use Rattle.kb_walk.proofs.WipeCalls.{HasFormedTree, cause_handed, done_not_failed}
 use Rattle.kb_again.specs.Sparing.{areas_of}

@@ -1,14 +1,13 @@
 -- Changes that are one file operation: what a call makes of them, behind looks that found it allowed or not.
 use Rattle.std.proofs.Common.{◌≡◌, ◌⊎◌, ℕ, Bool, true, false, cond, ◌&&◌, ◌||◌, not, List, [], ◌∷◌, Option, Some, None, is_some, Result, Ok, Err, refl, sym, ap, ◌∙◌, subst, inl, inr, arith}
-use Rattle.std.specs.Prelude.{option_map, filter, flat_map, IsErrOf, IsTrue, OnOk, nat_eq, length}
+use Rattle.std.specs.Prelude.{option_map, filter, flat_map, OnOk, nat_eq, length}
 use Rattle.std.specs.List.{list_any}
 use Rattle.std.specs.Option.{ForSome}
 use Rattle.std.specs.FinMap.{keys, remove}
 use Rattle.kb_world.specs.Path.{Path, parent, child}
 use Rattle.kb_world.specs.Roots.{is_below}
 use Rattle.kb_world.specs.Steps.{tidied}
-use Rattle.kb_world.specs.Tree.{Tree, node_at, with_node, without, moved, is_dir, is_leaf, children, IsFormed, IsEmptyDir}
-use Rattle.kb_world.specs.Area.{IsLeft}
+use Rattle.kb_world.specs.Tree.{Tree, node_at, with_node, without, moved, is_dir, is_leaf, children, IsFormed}
 use Rattle.kb_world.specs.Crash.{History, LeftOf, Adds}
 use Rattle.kb_world.specs.State.{State, Changes, Looks, HasCause}
 use Rattle.kb_world.specs.declared.tree.Node.{Node}
@@ -19,8 +18,8 @@ use Rattle.kb_world.proofs.CrashLaws.{adds_none, adds_wider, turns_adds}
 use Rattle.kb_world.proofs.DoesLaws.{cause_then, ran_none_then}
 use Rattle.kb_walk.specs.Walking.{paths_below}
 use Rattle.kb_walk.proofs.WalkLaws.{below_entries}
-use Rattle.kb_walk.proofs.WipeCalls.{HasFormedTree, cause_handed, done_not_failed}
-use Rattle.kb_intent.specs.Doing.{StepsTo, IsEitherOf, IsEitherNow, LeftOfEither, made_dir_at, dropped_leaf_at, put_staged_at}
+use Rattle.kb_walk.proofs.WipeCalls.{cause_handed, done_not_failed}
+use Rattle.kb_intent.specs.Doing.{StepsTo, IsEitherNow, LeftOfEither, made_dir_at, dropped_leaf_at, put_staged_at}
 
 -- a world's call that makes the change
 module _ {T : Type 0} (change by_call : Tree → Tree) (old new : State) (result : Result T WorldError) (is : ForSome old.tree (λ tree. by_call tree ≡ change tree)) (c : Changes by_call old new result) where

@@ -10,15 +10,18 @@ use Rattle.kb_world.specs.State.{State, HasCause, Lasts, RanNone}
 use Rattle.kb_world.specs.Tree.{Tree, node_at, with_node, without, moved, is_dir, is_leaf}
 use Rattle.kb_world.specs.declared.child.Area.{Area}
 use Rattle.kb_world.specs.declared.child.Reply.{Reply}
+use Rattle.kb_world.specs.declared.child.Request.{Request}
 use Rattle.kb_world.specs.declared.roots.Roots.{Roots}
 use Rattle.kb_world.specs.declared.tree.Node.TheVariants as node
 use Rattle.kb_world.specs.declared.world.WorldError.{WorldError}
 use Rattle.kb_world.specs.declared.world.WorldError.TheVariants.{Failed}
 use Rattle.kb_changes.specs.Change.{do_change, done, request_at, requests_of, replies_of}
 use Rattle.kb_changes.specs.declared.change.Change.{Change}
+use Rattle.kb_changes.specs.declared.change.Change.TheVariants.{Dir, Put, Drop, DropDir, Wipe, Run}
 use Rattle.kb_again.specs.Sparing.{areas_of}
 use Rattle.kb_again.specs.Within.{IsWithin, IsWithinNext, IsBetween}
 use Rattle.kb_machine.specs.Aside.{IsOneArea}
+use Rattle.kb_intent.specs.declared.changing.Ran.{Ran}
 
 -- ---- a change that is one file operation
 
@@ -88,11 +91,22 @@ pub record DoesChange (roots : Roots) (change : Change) (old new : State) (resul
 
 -- ---- changes in their order
 
+-- the request that was made, where a run has a reply
+abbrev pub asked_by : Change → Option Reply → List Request
+asked_by change None = []
+asked_by (Run request) (Some reply) = request ∷ []
+asked_by (Dir path) (Some reply) = []
+asked_by (Put _ number target) (Some reply) = []
+asked_by (Drop path) (Some reply) = []
+asked_by (DropDir path) (Some reply) = []
+asked_by (Wipe path) (Some reply) = []
+
 -- all were done: the tree after them, their requests and their replies
-pub record AreChanged (roots : Roots) (changes : List Change) (old new : State) (replies : List Reply) (before : Tree) : Type 0 where
+pub record AreChanged (roots : Roots) (changes : List Change) (old new : State) (made : Ran) (before : Tree) : Type 0 where
   pub tree : new.tree ≡ Some (done roots old.script changes before)
   pub ran : new.ran ≡ old.ran ++ requests_of roots old.script changes before
-  pub said : replies ≡ replies_of roots old.script changes before
+  pub requests : made.requests ≡ requests_of roots old.script changes before
+  pub said : made.replies ≡ replies_of roots old.script changes before
 
 -- some were done, and the tree that is told now lies within the next one
 pub record IsCutOffNow (roots : Roots) (script : Script) (changes : List Change) (new : Option Tree) (before : Tree) : Type 0 where
@@ -104,8 +118,8 @@ pub record IsCutOffNow (roots : Roots) (script : Script) (changes : List Change)
   pub within : IsWithinNext roots script back (done roots script front before) now
 
 -- The call does the changes in their order, and whatever it answers nothing else is changed.
-pub record DoesChanges (roots : Roots) (changes : List Change) (old new : State) (result : Result (List Reply) WorldError) : Type 0 where
-  pub done : ForSome old.tree (λ tree. IfOk result (λ replies. AreChanged roots changes old new replies tree))
+pub record DoesChanges (roots : Roots) (changes : List Change) (old new : State) (result : Result Ran WorldError) : Type 0 where
+  pub done : ForSome old.tree (λ tree. IfOk result (λ made. AreChanged roots changes old new made tree))
   pub cut_off : ForSome old.tree (IsCutOffNow roots old.script changes new.tree)
   -- what is soft now was soft, or is an area of theirs
   pub soft : AllByRecursion (λ area. IsOneArea area (areas_of changes ++ old.history.soft)) new.history.soft

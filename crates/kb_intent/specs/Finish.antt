@@ -4,6 +4,7 @@ use Rattle.std.specs.Prelude.{◌≡◌, ℕ, Bool, List, Some, Result, IfOk, On
 use Rattle.std.specs.Option.{ForSome}
 use Rattle.kb_world.specs.Crash.{Adds}
 use Rattle.kb_world.specs.Public.{intent_path, public_tree}
+use Rattle.kb_world.specs.Script.{Script}
 use Rattle.kb_world.specs.State.{State, HasCause, Lasts}
 use Rattle.kb_world.specs.Tree.{Tree, node_at}
 use Rattle.kb_world.specs.declared.roots.Roots.{Roots}
@@ -38,12 +39,16 @@ pub record KeepsOpening (roots : Roots) (store : Tree) {E T : Type 0} (old new :
   pub stands : Stands roots store new
   pub rests : OnOk result (Rests roots store new)
 
+-- the store once all changes are done
+abbrev pub store_after : Roots → Script → List Change → Tree → Tree
+store_after roots script changes tree = public_tree roots (done roots script changes tree)
+
 -- The call does what is left of a transaction of these changes. Where its journal stands and no soft area does harm, it
 -- survives a crash.
 pub record Finishes (roots : Roots) (changes : List Change) (old new : State) (result : Result Ran WorldError) : Type 0 where
   pub done : ForSome old.tree (λ tree. IfOk result (IsFinished roots changes old new tree))
   pub survives : ForSome old.tree (λ tree. (intent : Intent) → HasJournal roots intent tree → intent.changes ≡ changes
       → AreSparing roots (areas_of changes) old.history.soft
-      → KeepsOpening roots (public_tree roots (done roots old.script changes tree)) old new result)
+      → KeepsOpening roots (store_after roots old.script changes tree) old new result)
   pub lasts : Lasts old new
   pub cause : HasCause Failed old new result

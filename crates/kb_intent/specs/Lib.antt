@@ -1,3 +1,4 @@
+pub mod Clearing
 pub mod Doing
 pub mod Finish
 pub mod Recover

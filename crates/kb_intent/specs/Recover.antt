@@ -43,12 +43,12 @@ pub record IsDamageTold (roots : Roots) (old : State) (why : Refusal) : Type 0 w
   pub path : why ≡ Damaged (intent_path roots)
   pub damaged : ForSome old.tree (HasDamagedJournal roots)
 
--- The call does the transaction of the journal, if one stands. Where a store stands it survives a crash. A damaged journal
+-- The call does the transaction of the journal, if one stands. Where a store stands in a told tree it survives a crash. A damaged journal
 -- is refused, and then nothing is changed.
 pub record Recovers (roots : Roots) (old new : State) (result : Result (Option Recovered) Stop) : Type 0 where
   pub found : ForSome old.tree (λ tree. IfOk result (Found roots old new tree))
   pub refused : (why : Refusal) → IsErrOf result (Refused why) → IsDamageTold roots old why
   pub damaged : ForSome old.tree (λ tree. HasDamagedJournal roots tree → Unchanged old new)
-  pub survives : (store : Tree) → Stands roots store old → KeepsOpening roots store old new result
+  pub survives : ForSome old.tree (λ tree. (store : Tree) → Stands roots store old → KeepsOpening roots store old new result)
   pub lasts : Lasts old new
   pub cause : HasCause Fault old new result

@@ -6,7 +6,7 @@ ghost use Rattle.kb_world.specs.Roots.{share_root};
 ghost use Rattle.kb_changes.specs.Valid.{is_well_placed};
 ghost use Rattle.kb_changes.specs.declared.change.Change.TheVariants as changes;
 ghost use Rattle.kb_world.specs.Tree.{node_at, is_dir};
-ghost use Rattle.kb_intent.specs.Doing.{StepsTo, DoesChange, DoesChanges, put_staged_at, said_by};
+ghost use Rattle.kb_intent.specs.Doing.{StepsTo, DoesChange, DoesChanges, put_staged_at, said_by, asked_by};
 
 use crate::doing::{drop_directory, drop_leaf, make_directory, put_staged};
 use crate::standing::is_directory;
@@ -172,37 +172,51 @@ pub fn do_change<W: World>(
     }
 }
 
-// Keeps the reply of a run.
-fn keep_reply(replies: &mut Sequence<Reply>, reply: Option<Reply>) -> Result<(), AllocError>
-    ensures { OnOk result (replies.new ≡ replies.old ++ said_by reply) }
-{
-    match reply {
-        Some(reply) => replies.push(reply),
-        None => Ok(()),
-    }
+/// The requests that were made, in their order, and the replies to them.
+#[derive(Debug, Drop)]
+pub struct Ran {
+    pub requests: Sequence<Request>,
+    pub replies: Sequence<Reply>,
 }
 
-/// Does changes in their order. The replies are those of the runs.
+// Keeps the request of a run that was made, and its reply.
+fn keep(ran: &mut Ran, change: &Change, reply: Option<Reply>) -> Result<(), AllocError>
+    ensures requests { OnOk result (ran.new.requests ≡ ran.old.requests ++ asked_by change.now reply) }
+    ensures replies { OnOk result (ran.new.replies ≡ ran.old.replies ++ said_by reply) }
+{
+    let Some(reply) = reply else {
+        return Ok(());
+    };
+    if let Change::Run(request) = change {
+        ran.requests.push(request.clone()?)?;
+    }
+    ran.replies.push(reply)
+}
+
+/// Does changes in their order. It tells the requests that were made, and their replies.
 pub fn do_changes<W: World>(
     alloc: Global,
     world: &mut W,
     roots: &Roots,
     changes: &[Change],
-) -> Result<Sequence<Reply>, WorldError>
+) -> Result<Ran, WorldError>
     requires rooted { ForSome (W.state world.old).tree (λ tree. (W.state world.old).roots ≡ roots.now) }
     requires placed { list_all (is_well_placed roots.now) changes.now ≡ true }
     ensures { DoesChanges roots.now changes.now (W.state world.old) (W.state world.new) result }
 {
-    let mut replies = Sequence::new(alloc);
+    let mut ran = Ran {
+        requests: Sequence::new(alloc),
+        replies: Sequence::new(alloc),
+    };
     for change in changes {
         let reply = match do_change(alloc, world, roots, change) {
             Ok(reply) => reply,
             Err(error) => return Err(error),
         };
-        match keep_reply(&mut replies, reply) {
+        match keep(&mut ran, change, reply) {
             Ok(()) => {}
             Err(_) => return Err(WorldError::NoMemory),
         }
     }
-    Ok(replies)
+    Ok(ran)
 }

@@ -1,7 +1,6 @@
 -- It is one file operation.
 use Rattle.kb_changes.specs.declared.change.Change.TheVariants as changes
-use Rattle.kb_world.specs.Steps.{tidied}
-use Rattle.kb_intent.specs.Doing.{made_dir_at, dropped_leaf_at, put_staged_at}
+use Rattle.kb_intent.specs.Doing.{dropped_leaf_at}
 use Rattle.kb_intent.proofs.ChangeLaws.{does_plain, stops_plain, plain_drop}
 use Rattle.kb_intent.proofs.changing.do_drop.Goals as goal
 

@@ -1,5 +1,5 @@
 -- It is one file operation, within one root.
-use Rattle.std.proofs.Common.{true, refl, ap, ◌∙◌, ◌≡◌}
+use Rattle.std.proofs.Common.{refl, ap, ◌∙◌}
 use Rattle.kb_changes.specs.declared.change.Change.TheVariants as changes
 use Rattle.kb_changes.specs.Change.{staged_path}
 use Rattle.kb_world.specs.Roots.{share_root}

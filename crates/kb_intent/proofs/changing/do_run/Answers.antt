@@ -1,5 +1,5 @@
 -- The child is run where its directory is one, and else passed over.
-use Rattle.std.proofs.Common.{Bool, true, false}
+use Rattle.std.proofs.Common.{false}
 use Rattle.kb_changes.specs.declared.change.Change.TheVariants as changes
 use Rattle.kb_world.specs.Tree.{node_at, is_dir}
 use Rattle.kb_intent.proofs.RunLaws.{does_since, passes_run, stops_look}

@@ -1,8 +1,8 @@
 -- A directory without entries goes, and nothing else.
-use Rattle.std.proofs.Common.{Bool, true, false, sym}
+use Rattle.std.proofs.Common.{false}
 use Rattle.kb_world.specs.Steps.{tidied}
 use Rattle.kb_world.specs.Tree.{node_at, is_dir}
-use Rattle.kb_intent.proofs.StepsToLaws.{steps_since, steps_none, steps_stopped, answered, told_after, untidied_other}
+use Rattle.kb_intent.proofs.StepsToLaws.{steps_since, steps_none, steps_stopped, answered, untidied_other}
 use Rattle.kb_intent.proofs.doing.drop_directory.Goals as goal
 
 pub returns-in-Ok-true : goal.returns-in-Ok-true

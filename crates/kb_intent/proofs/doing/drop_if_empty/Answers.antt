@@ -1,5 +1,5 @@
 -- A directory goes exactly where its list is empty.
-use Rattle.std.proofs.Common.{rules, Bool, true, false, ap, sym, ◌∙◌, length, nat_eq}
+use Rattle.std.proofs.Common.{rules, ap, sym, ◌∙◌, length, nat_eq}
 use Rattle.kb_world.specs.Steps.{tidied}
 use Rattle.kb_world.specs.Tree.{without}
 use Rattle.kb_intent.proofs.StepsToLaws.{steps_by_call, steps_since, steps_none, steps_stopped, told_after, no_names, tidied_empty, untidied_full}

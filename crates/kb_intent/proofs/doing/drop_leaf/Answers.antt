@@ -1,5 +1,5 @@
 -- A file or a link goes, and nothing else.
-use Rattle.std.proofs.Common.{Bool, true, false}
+use Rattle.std.proofs.Common.{true, false}
 use Rattle.kb_world.specs.Tree.{node_at, is_leaf, without}
 use Rattle.kb_intent.specs.Doing.{dropped_leaf_at}
 use Rattle.kb_intent.proofs.StepsToLaws.{steps_by_call, steps_since, steps_none, steps_stopped, answered, told_after, dropped, undropped}

@@ -1,8 +1,8 @@
 -- Where anything stands nothing is made.
-use Rattle.std.proofs.Common.{Bool, true, false, not, is_some}
+use Rattle.std.proofs.Common.{false, not, is_some}
 use Rattle.kb_world.specs.Tree.{node_at}
 use Rattle.kb_intent.specs.Doing.{made_dir_at}
-use Rattle.kb_intent.proofs.StepsToLaws.{steps_since, steps_none, steps_stopped, answered, told_after, nothing_there, unmade_taken}
+use Rattle.kb_intent.proofs.StepsToLaws.{steps_since, steps_none, steps_stopped, answered, unmade_taken}
 use Rattle.kb_intent.proofs.doing.make_directory.Goals as goal
 
 pub returns-in-Ok-true : goal.returns-in-Ok-true

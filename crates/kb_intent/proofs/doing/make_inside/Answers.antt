@@ -1,5 +1,5 @@
 -- The directory is made where its parent is one.
-use Rattle.std.proofs.Common.{Bool, true, false}
+use Rattle.std.proofs.Common.{true, false}
 use Rattle.kb_world.specs.Tree.{node_at, is_dir, with_node}
 use Rattle.kb_world.specs.declared.tree.Node.TheVariants as nodes
 use Rattle.kb_intent.specs.Doing.{made_dir_at}

@@ -1,5 +1,5 @@
 -- What is staged comes to its target, in a directory.
-use Rattle.std.proofs.Common.{Bool, true, false}
+use Rattle.std.proofs.Common.{true, false}
 use Rattle.kb_world.specs.Tree.{node_at, is_dir, moved}
 use Rattle.kb_intent.specs.Doing.{put_staged_at}
 use Rattle.kb_intent.proofs.StepsToLaws.{steps_by_call, steps_since, steps_none, steps_stopped, answered, of_parent, told_after, put, unput_homeless}

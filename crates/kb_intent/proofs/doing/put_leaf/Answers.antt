@@ -1,5 +1,5 @@
 -- Where a directory stands nothing is put.
-use Rattle.std.proofs.Common.{Bool, true, false}
+use Rattle.std.proofs.Common.{true}
 use Rattle.kb_world.specs.Tree.{node_at, is_dir}
 use Rattle.kb_intent.specs.Doing.{put_staged_at}
 use Rattle.kb_intent.proofs.StepsToLaws.{steps_since, steps_none, steps_stopped, answered, unput_taken}

@@ -1,5 +1,5 @@
 -- Where nothing is staged nothing is put.
-use Rattle.std.proofs.Common.{Bool, true, false}
+use Rattle.std.proofs.Common.{false}
 use Rattle.kb_world.specs.Tree.{node_at, is_leaf}
 use Rattle.kb_intent.specs.Doing.{put_staged_at}
 use Rattle.kb_intent.proofs.StepsToLaws.{steps_since, steps_none, steps_stopped, answered, unput_absent}
