@@ -2,5 +2,4 @@ mod AddChanges
 mod AddLaws
 mod CommitAdd
 mod DoesAdd
-mod PlaceLaws
 mod ScriptLaws

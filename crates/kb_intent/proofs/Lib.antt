@@ -1,9 +1,13 @@
+pub mod ButLaws
 pub mod ChangeLaws
 pub mod ChangesLaws
 pub mod ClearingLaws
+pub mod DecimalLaws
 pub mod EndLaws
 pub mod FinishLaws
+pub mod PlaceLaws
 pub mod RecoverLaws
 pub mod RunLaws
 pub mod StandingLaws
 pub mod StepsToLaws
+pub mod TxnLaws

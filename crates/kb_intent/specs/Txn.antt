@@ -1,5 +1,5 @@
 -- A transaction that is being put together: its changes, and what is staged for them. This project's own.
-use Rattle.std.specs.Prelude.{◌≡◌, ℕ, ◌+◌, ◌≤◌, Bool, true, false, ◌&&◌, List, [], ◌∷◌, ◌++◌, length, Option, Some, None, Result, IfOk, OnOk, OnErr, IsErrOf}
+use Rattle.std.specs.Prelude.{◌≡◌, ℕ, ◌+◌, ◌≤◌, true, false, List, [], ◌∷◌, ◌++◌, length, Option, Some, None, Result, IfOk, OnOk, OnErr, IsErrOf}
 use Rattle.std.specs.List.{list_any, slice_get}
 use Rattle.std.specs.Option.{ForSome}
 use Rattle.kb_world.specs.Path.{Path, is_under}

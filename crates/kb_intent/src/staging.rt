@@ -71,8 +71,7 @@ pub(crate) fn put_staged_content<W: World>(
 pub(crate) fn left_places(alloc: Global, roots: &Roots) -> Result<Vec<Path>, AllocError>
     ensures { IfOk result (λ places. places.items ≡ rule.left_places roots.now) }
 {
-    Ok(vec![
-        in alloc;
+    Ok(vec![in alloc;
         roots.dkms.child(alloc, ".intent.new")?,
         roots.dkms.child(alloc, ".kb-staged")?,
         roots.src.child(alloc, ".kb-staged")?,
