@@ -1,5 +1,7 @@
 mod AddChanges
 mod AddLaws
+mod AddRun
 mod CommitAdd
 mod DoesAdd
+mod PrepareLaws
 mod ScriptLaws

@@ -20,8 +20,7 @@ pub fn commit<W: World>(
     requires apart { AreApart txn.roots }
     requires valid { is_valid txn.roots txn.intent.changes ≡ true }
     requires dkms { ForSome (W.state world.old).tree (λ tree. is_dir (node_at tree txn.roots.dkms) ≡ true) }
-    requires bare { ForSome (W.state world.old).tree (λ tree. node_at tree (intent_path txn.roots) ≡ None) }
-    requires unbegun { ForSome (W.state world.old).tree (λ tree. node_at tree (new_intent_path txn.roots) ≡ None) }
+    requires bare { ForSome (W.state world.old).tree (λ tree. (node_at tree (intent_path txn.roots) ≡ None) × (node_at tree (new_intent_path txn.roots) ≡ None)) }
     ensures { Commits txn.roots (transacted txn.roots (W.state world.old).script txn.intent.changes) (W.state world.old) (W.state world.new) result }
 {
     Err(Stop::NoMemory)
