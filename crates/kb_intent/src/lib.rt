@@ -6,6 +6,7 @@
 #![tactic(auto)]
 
 mod changing;
+mod committing;
 mod doing;
 mod finishing;
 mod recovering;
@@ -14,6 +15,7 @@ mod standing;
 mod txn;
 
 pub use changing::{Ran, do_change, do_changes};
+pub use committing::commit;
 pub use kb_changes::{Change, Intent, Recovered, RootName};
 pub use kb_journal::{IntentError, read_intent, write_intent};
 pub use recovering::recover;
