@@ -6,11 +6,13 @@ pub mod CommitLaws
 pub mod DecimalLaws
 pub mod EndLaws
 pub mod FinishLaws
+pub mod JournaledLaws
 pub mod PlaceLaws
 pub mod PutJournalLaws
 pub mod RecoverLaws
 pub mod RunLaws
 pub mod StandingLaws
 pub mod StepsToLaws
+pub mod StopLaws
 pub mod TxnLaws
 pub mod UnreachedLaws

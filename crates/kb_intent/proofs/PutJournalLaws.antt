@@ -29,6 +29,7 @@ use Rattle.kb_walk.proofs.WalkLaws.{below_more}
 use Rattle.kb_intent.specs.Journaling.{with_journal, is_begun_at, IsJournaling, PutsJournal}
 use Rattle.kb_intent.specs.Staging.{LeftBut, ChangesBut}
 use Rattle.kb_intent.proofs.ButLaws.{but_put, same_with}
+use Rattle.kb_intent.proofs.StopLaws.{wanting_cause}
 
 abbrev file_of : List ℕ → Node
 file_of text = nodes.File text false
@@ -46,14 +47,8 @@ puts_wanting roots text state = record {
   soft = refl;
   moments = λ tree told. turns_none _ _ state.history state.history refl;
   ran_none = (unchanged_none state).ran_none;
-  cause = record { later = omega arith; rose = λ failed. absurd (wanting failed); steady = λ is. is; never = λ told is failed. wanting failed };
+  cause = wanting_cause state;
 }
-  where
-    stopped : WorldError → Result (Unit {0}) WorldError
-    stopped error = Err error
-
-    wanting : stopped NoMemory ≡ stopped Failed → ⊥
-    wanting e = cc
 
 -- ---- what the two calls do
 

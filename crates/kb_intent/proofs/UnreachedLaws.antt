@@ -61,7 +61,7 @@ module _ (roots : Roots) (apart : AreApart roots) where
   entry_apart name own root_name.Modules = apart_two roots.modules roots.dkms (codes ".kb-staged") name (apart-back roots.dkms roots.modules w.dkms_modules)
   entry_apart name own root_name.Boot = apart_two roots.boot roots.dkms (codes ".kb-staged") name (apart-back roots.dkms roots.boot w.dkms_boot)
 
-  begun_apart : (root : RootName) → are_apart (staging_path (root_path roots root)) (new_intent_path roots) ≡ true
+  pub begun_apart : (root : RootName) → are_apart (staging_path (root_path roots root)) (new_intent_path roots) ≡ true
   begun_apart = entry_apart (codes ".intent.new") (apart_one roots.dkms (codes ".kb-staged") (codes ".intent.new") refl refl)
 
   -- neither of the two is a staged path
