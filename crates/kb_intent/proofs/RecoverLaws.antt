@@ -1,14 +1,14 @@
 -- What a recovery does, by what stands at the journal's path.
-use Rattle.std.proofs.Common.{◌≡◌, ◌≢◌, ◌⊎◌, ℕ, ◌≤◌, Bool, true, false, List, [], Option, Some, None, is_some, Result, Ok, Err, refl, sym, ap, ◌∙◌, subst, inl, inr, arith}
-use Rattle.std.specs.Prelude.{IsErrOf, IsTrue, IfOk}
+use Rattle.std.proofs.Common.{◌≡◌, ◌⊎◌, ℕ, Bool, List, [], Option, Some, None, Result, Ok, Err, refl, sym, ap, ◌∙◌, subst, inl, inr, arith}
+use Rattle.std.specs.Prelude.{IfOk}
 use Rattle.std.specs.Option.{ForSome}
 use Rattle.kb_world.specs.Area.{IsLeft}
 use Rattle.kb_world.specs.Crash.{LeftOf, Adds, History}
 use Rattle.kb_world.specs.Public.{intent_path, public_tree}
 use Rattle.kb_world.specs.Script.{Script}
-use Rattle.kb_world.specs.State.{State, HasCause, Lasts, Looks, Unchanged}
+use Rattle.kb_world.specs.State.{State, HasCause, Looks, Unchanged}
 use Rattle.kb_world.specs.Stop.{stop_for}
-use Rattle.kb_world.specs.Tree.{Tree, node_at, kind_of, is_file, file_bytes, IsFormed}
+use Rattle.kb_world.specs.Tree.{Tree, node_at, kind_of, file_bytes, IsFormed}
 use Rattle.kb_world.specs.declared.child.Area.{Area}
 use Rattle.kb_world.specs.declared.refusal.Refusal.{Refusal}
 use Rattle.kb_world.specs.declared.refusal.Refusal.TheVariants.{Damaged}
@@ -23,18 +23,18 @@ use Rattle.kb_world.specs.declared.tree.Node.TheVariants as nodes
 use Rattle.kb_world.specs.declared.world.WorldError.{WorldError}
 use Rattle.kb_world.specs.declared.world.WorldError.TheVariants.{Failed, NoMemory}
 use Rattle.kb_world.proofs.CrashLaws.{adds_none}
-use Rattle.kb_world.proofs.DoesLaws.{rose_since, lasts_then, unchanged_none, unchanged_then}
+use Rattle.kb_world.proofs.DoesLaws.{rose_since, unchanged_none}
 use Rattle.kb_changes.specs.Change.{done}
 use Rattle.kb_changes.specs.Text.{IsJournal}
 use Rattle.kb_changes.specs.declared.change.Intent.{Intent}
 use Rattle.kb_changes.specs.declared.change.Recovered.{Recovered}
 use Rattle.kb_again.specs.Sparing.{AreSparing, areas_of}
-use Rattle.kb_machine.specs.Opens.{IsReady, at_rest, recovers, Opens, own_areas}
-use Rattle.kb_machine.specs.Stands.{Stands, Rests}
+use Rattle.kb_machine.specs.Opens.{IsReady, at_rest, recovers, own_areas}
+use Rattle.kb_machine.specs.Stands.{Stands}
 use Rattle.kb_machine.proofs.RestLaws.{spared_journal, ready_at_rest}
 use Rattle.kb_walk.proofs.WipeCalls.{HasFormedTree}
 use Rattle.kb_intent.specs.Finish.{HasJournal, store_after, KeepsOpening, Finishes}
-use Rattle.kb_intent.specs.Recover.{IsRecovered, IsAtRest, Found, HasDamagedJournal, IsDamageTold, Recovers}
+use Rattle.kb_intent.specs.Recover.{Found, HasDamagedJournal, IsDamageTold, Recovers}
 use Rattle.kb_intent.specs.declared.changing.Ran.{Ran}
 use Rattle.kb_intent.proofs.EndLaws.{stands_same}
 

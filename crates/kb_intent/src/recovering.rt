@@ -1,13 +1,11 @@
 // The transaction of a journal that stands is ended.
-ghost use Rattle.std.specs.Prelude.{◌≡◌, Some, true, IfOk, IsErrOf};
+ghost use Rattle.std.specs.Prelude.{◌≡◌, Some, true};
 ghost use Rattle.std.specs.Option.{ForSome};
 ghost use Rattle.kb_world.specs.Public.{intent_path};
 ghost use Rattle.kb_world.specs.Roots.{AreApart};
 ghost use Rattle.kb_world.specs.Tree.{node_at, is_file, file_bytes};
-ghost use Rattle.kb_changes.specs.Text.{IsJournal};
 ghost use Rattle.kb_changes.specs.Valid.{is_valid};
 ghost use Rattle.kb_changes.specs.declared.change.Intent.{Intent as AnIntent};
-ghost use Rattle.kb_journal.specs.declared.error.IntentError.TheVariants.{Damaged};
 ghost use Rattle.kb_intent.specs.Finish.{HasJournal};
 ghost use Rattle.kb_intent.specs.Recover.{Recovers};
 
@@ -43,17 +41,6 @@ fn recover_intent<W: World>(
     }
 }
 
-// The intent of a journal, and the only one that has this text.
-fn read_journal(alloc: Global, text: &[u8], roots: &Roots) -> Result<Intent, IntentError>
-    ensures intent { IfOk result (λ intent. IsJournal roots.now text.now intent) }
-    ensures only { IfOk result (λ intent. (other : AnIntent)
-        → IsJournal roots.now text.now other → other ≡ intent) }
-    ensures damaged { IsErrOf result Damaged → (other : AnIntent)
-        → IsJournal roots.now text.now other → ⊥ }
-{
-    read_intent(alloc, text, roots)
-}
-
 // Ends the transaction of the journal with this text, which stands at the path.
 fn recover_text<W: World>(
     alloc: Global,
@@ -70,7 +57,7 @@ fn recover_text<W: World>(
         file_bytes (node_at tree (intent_path roots.now)) ≡ Some text.now) }
     ensures { Recovers roots.now (W.state world.old) (W.state world.new) result }
 {
-    match read_journal(alloc, text, roots) {
+    match read_intent(alloc, text, roots) {
         Ok(intent) => recover_intent(alloc, world, roots, intent),
         Err(IntentError::Damaged) => Err(Stop::Refused(Refusal::Damaged { path })),
         Err(IntentError::NoMemory) => Err(Stop::NoMemory),

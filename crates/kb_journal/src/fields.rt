@@ -1,11 +1,10 @@
 // The fields of a text.
-ghost use Rattle.std.specs.Prelude.{◌≡◌, ◌≢◌, List, ℕ, [], ◌∷◌, IfOk, OnOk, MatchOption, Some, None, Err, bytes_eq, codes, length, map};
+ghost use Rattle.std.specs.Prelude.{◌≡◌, List, ℕ, [], ◌∷◌, IfErr, IfOk, OnOk, MatchOption, Some, None, bytes_eq, length, map};
 ghost use Rattle.std.specs.List.{slice_split};
 ghost use Rattle.std.specs.Str.{IsUtf8};
-ghost use Rattle.hex.specs.Hex.{decode_of};
-ghost use Rattle.hex.specs.declared.error.FromHexError.{FromHexError};
 ghost use Rattle.kb_changes.specs.Text as rule;
-ghost use Rattle.kb_journal.specs.Reads.{is_field_end, ReadsBack};
+ghost use Rattle.kb_journal.specs.declared.error.IntentError.TheVariants.{NoMemory};
+ghost use Rattle.kb_journal.specs.Reads.{is_field_end, IsNoText, IsRead};
 
 use crate::error::IntentError;
 use hex::FromHexError;
@@ -64,6 +63,13 @@ impl Fields {
         self.rest.pop()
     }
 
+    /// Passes over the first field.
+    pub fn skip(&mut self)
+        ensures { (field : List ℕ) (more : List (List ℕ)) → self.old ≡ field ∷ more → self.new ≡ more }
+    {
+        self.next();
+    }
+
     /// Puts a field before the others.
     pub fn put_back(&mut self, field: Bytes) -> Result<(), AllocError>
         ensures { OnOk result (self.new ≡ field ∷ self.old) }
@@ -88,7 +94,11 @@ pub(crate) fn is_word(field: &Bytes, word: &str) -> bool
 }
 
 // The text of a field that is one: a dash is the empty text, any other the hexadecimal of its bytes.
-pub(crate) fn text_of(alloc: Global, field: &[u8]) -> Result<Option<Text>, IntentError> {
+pub(crate) fn text_of(alloc: Global, field: &[u8]) -> Result<Option<Text>, IntentError>
+    ensures text { (text : List ℕ) → IsUtf8 text → field.now ≡ rule.text_field text → IsRead (Some text) result }
+    ensures none { IsNoText field.now → IsRead None result }
+    ensures failed { IfErr result (λ error. error ≡ NoMemory) }
+{
     if field == "-".as_bytes() {
         return Ok(Some(Text::of(alloc, "")?));
     }
@@ -97,7 +107,9 @@ pub(crate) fn text_of(alloc: Global, field: &[u8]) -> Result<Option<Text>, Inten
             Ok(text) => Ok(Some(Text::of(alloc, text)?)),
             Err(_) => Ok(None),
         },
-        Err(FromHexError::OutOfMemory) => Err(IntentError::NoMemory),
-        Err(_) => Ok(None),
+        Err(error) => match error {
+            FromHexError::OutOfMemory => Err(IntentError::NoMemory),
+            _ => Ok(None),
+        },
     }
 }

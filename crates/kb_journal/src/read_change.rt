@@ -1,47 +1,118 @@
 // Changes are read from fields.
-ghost use Rattle.std.specs.Prelude.{◌≡◌, List, ℕ, [], ◌∷◌, ◌++◌, All, Some, None, codes, flat_map};
+ghost use Rattle.std.specs.Prelude.{◌≡◌, ◌<◌, ◌^◌, List, ℕ, ◌∷◌, ◌++◌, All, codes, flat_map, length, map};
+ghost use Rattle.std.specs.Fmt.{decimal};
 ghost use Rattle.std.specs.Str.{IsUtf8};
 ghost use Rattle.kb_changes.specs.Text as rule;
 ghost use Rattle.kb_changes.specs.declared.change.Change.{Change as AChange};
+ghost use Rattle.kb_changes.specs.declared.change.Change.TheVariants as changes;
 ghost use Rattle.kb_changes.specs.declared.change.RootName.{RootName as ARootName};
-ghost use Rattle.kb_journal.specs.Reads.{ReadsBack};
+ghost use Rattle.kb_journal.specs.Reads.{IsPathChange, ReadsBack};
+ghost use Rattle.kb_world.specs.Path.{Path as APath};
 ghost use Rattle.kb_world.specs.declared.child.Area.{Area as AnArea};
+ghost use Rattle.kb_world.specs.declared.child.Area.TheVariants as areas;
 ghost use Rattle.kb_world.specs.declared.child.Request.{Request as ARequest};
 
 use crate::error::IntentError;
 use crate::fields::{Fields, is_word};
 use crate::read_list::{read_number, read_pairs, read_path, read_paths, read_text, read_texts};
 use kb_changes::{Change, RootName};
-use kb_world::{Area, Bytes, Request, Sequence};
+use kb_world::{Area, Bytes, Path, Request, Sequence, Text, Texts};
 use std::alloc::Global;
 
-fn read_area(alloc: Global, fields: &mut Fields) -> Result<Area, IntentError> {
+// A directory and the names in it.
+fn read_names(alloc: Global, fields: &mut Fields) -> Result<Area, IntentError>
+    ensures { (directory : APath) (names more : List (List ℕ)) → rule.IsTextPath directory → All IsUtf8 names → length names < 2 ^ 64
+        → fields.old ≡ rule.path_field directory ∷ rule.counted_fields (map rule.text_field names) ++ more
+        → ReadsBack (areas.Names directory names) more result fields.new }
+{
+    let directory = match read_path(alloc, fields) {
+        Ok(directory) => directory,
+        Err(error) => return Err(error),
+    };
+    match read_texts(alloc, fields) {
+        Ok(names) => Ok(Area::Names(directory, names)),
+        Err(error) => Err(error),
+    }
+}
+
+fn read_area(alloc: Global, fields: &mut Fields) -> Result<Area, IntentError>
+    ensures { (area : AnArea) (more : List (List ℕ)) → rule.IsTextArea area → fields.old ≡ rule.area_fields area ++ more
+        → ReadsBack area more result fields.new }
+{
     let Some(word) = fields.next() else {
         return Err(IntentError::Damaged);
     };
     if is_word(&word, "nothing") {
         Ok(Area::Nothing)
     } else if is_word(&word, "under") {
-        Ok(Area::Under(read_path(alloc, fields)?))
+        match read_path(alloc, fields) {
+            Ok(directory) => Ok(Area::Under(directory)),
+            Err(error) => Err(error),
+        }
     } else if is_word(&word, "names") {
-        let directory = read_path(alloc, fields)?;
-        let names = read_texts(alloc, fields)?;
-        Ok(Area::Names(directory, names))
+        read_names(alloc, fields)
     } else {
         Err(IntentError::Damaged)
     }
 }
 
-fn read_request(alloc: Global, fields: &mut Fields) -> Result<Request, IntentError> {
-    let program = read_text(alloc, fields)?;
-    let dir = read_path(alloc, fields)?;
-    let area = read_area(alloc, fields)?;
-    fields.next();
-    let args = read_texts(alloc, fields)?;
-    fields.next();
-    let env = read_pairs(alloc, fields)?;
-    fields.next();
-    let seen = read_paths(alloc, fields)?;
+// The program, the directory and the area.
+fn read_head(alloc: Global, fields: &mut Fields) -> Result<(Text, Path, Area), IntentError>
+    ensures { (request : ARequest) (more : List (List ℕ)) → rule.IsTextHead request → fields.old ≡ rule.head_fields request ++ more
+        → ReadsBack (request.program, request.dir, request.area) more result fields.new }
+{
+    let program = match read_text(alloc, fields) {
+        Ok(program) => program,
+        Err(error) => return Err(error),
+    };
+    let dir = match read_path(alloc, fields) {
+        Ok(dir) => dir,
+        Err(error) => return Err(error),
+    };
+    match read_area(alloc, fields) {
+        Ok(area) => Ok((program, dir, area)),
+        Err(error) => Err(error),
+    }
+}
+
+type Lists = (Texts, Sequence<(Text, Text)>, Sequence<Path>);
+
+// The arguments, the variables and the paths whose files are read.
+fn read_lists(alloc: Global, fields: &mut Fields) -> Result<Lists, IntentError>
+    ensures { (request : ARequest) (more : List (List ℕ)) → rule.IsTextRequest request
+        → fields.old ≡ codes "args" ∷ rule.counted_fields (map rule.text_field request.args) ++ (codes "env" ∷ rule.pair_fields request.env
+        ++ (codes "seen" ∷ rule.counted_fields (map rule.path_field request.seen) ++ more))
+        → ReadsBack (request.args, request.env, request.seen) more result fields.new }
+{
+    fields.skip();
+    let args = match read_texts(alloc, fields) {
+        Ok(args) => args,
+        Err(error) => return Err(error),
+    };
+    fields.skip();
+    let env = match read_pairs(alloc, fields) {
+        Ok(env) => env,
+        Err(error) => return Err(error),
+    };
+    fields.skip();
+    match read_paths(alloc, fields) {
+        Ok(seen) => Ok((args, env, seen)),
+        Err(error) => Err(error),
+    }
+}
+
+fn read_request(alloc: Global, fields: &mut Fields) -> Result<Request, IntentError>
+    ensures { (request : ARequest) (more : List (List ℕ)) → rule.IsTextRequest request → fields.old ≡ rule.request_fields request ++ more
+        → ReadsBack request more result fields.new }
+{
+    let (program, dir, area) = match read_head(alloc, fields) {
+        Ok(head) => head,
+        Err(error) => return Err(error),
+    };
+    let (args, env, seen) = match read_lists(alloc, fields) {
+        Ok(lists) => lists,
+        Err(error) => return Err(error),
+    };
     Ok(Request {
         program,
         args,
@@ -52,7 +123,9 @@ fn read_request(alloc: Global, fields: &mut Fields) -> Result<Request, IntentErr
     })
 }
 
-fn read_root(fields: &mut Fields) -> Result<RootName, IntentError> {
+fn read_root(fields: &mut Fields) -> Result<RootName, IntentError>
+    ensures { (root : ARootName) (more : List (List ℕ)) → fields.old ≡ rule.root_field root ∷ more → ReadsBack root more result fields.new }
+{
     let Some(word) = fields.next() else {
         return Err(IntentError::Damaged);
     };
@@ -69,55 +142,86 @@ fn read_root(fields: &mut Fields) -> Result<RootName, IntentError> {
     }
 }
 
-fn read_put(alloc: Global, fields: &mut Fields) -> Result<Change, IntentError> {
-    let root = read_root(fields)?;
-    let number = read_number(fields)?;
-    let target = read_path(alloc, fields)?;
-    Ok(Change::Put {
-        root,
-        number,
-        target,
-    })
+// The root, the number and the target.
+fn read_put(alloc: Global, fields: &mut Fields) -> Result<Change, IntentError>
+    ensures { (root : ARootName) (number : ℕ) (target : APath) (more : List (List ℕ)) → number < 2 ^ 64 → rule.IsTextPath target
+        → fields.old ≡ rule.root_field root ∷ decimal number ∷ rule.path_field target ∷ more
+        → ReadsBack (changes.Put root number target) more result fields.new }
+{
+    let root = match read_root(fields) {
+        Ok(root) => root,
+        Err(error) => return Err(error),
+    };
+    let number = match read_number(fields) {
+        Ok(number) => number,
+        Err(error) => return Err(error),
+    };
+    match read_path(alloc, fields) {
+        Ok(target) => Ok(Change::Put {
+            root,
+            number,
+            target,
+        }),
+        Err(error) => Err(error),
+    }
 }
 
-// Reads the change that this word begins; none where it ends the changes.
-fn read_change(
-    alloc: Global,
-    word: &Bytes,
-    fields: &mut Fields,
-) -> Result<Option<Change>, IntentError> {
-    if is_word(word, "end") {
-        Ok(None)
-    } else if is_word(word, "dir") {
-        Ok(Some(Change::Dir(read_path(alloc, fields)?)))
-    } else if is_word(word, "put") {
-        Ok(Some(read_put(alloc, fields)?))
+// The change of a path that the word names.
+fn change_of_path(word: &Bytes, path: Path) -> Result<Change, IntentError>
+    ensures { (change : AChange) → IsPathChange word.now path change → result ≡ Ok change }
+{
+    if is_word(word, "dir") {
+        Ok(Change::Dir(path))
     } else if is_word(word, "drop") {
-        Ok(Some(Change::Drop(read_path(alloc, fields)?)))
+        Ok(Change::Drop(path))
     } else if is_word(word, "dropdir") {
-        Ok(Some(Change::DropDir(read_path(alloc, fields)?)))
+        Ok(Change::DropDir(path))
     } else if is_word(word, "wipe") {
-        Ok(Some(Change::Wipe(read_path(alloc, fields)?)))
-    } else if is_word(word, "run") {
-        Ok(Some(Change::Run(read_request(alloc, fields)?)))
+        Ok(Change::Wipe(path))
     } else {
         Err(IntentError::Damaged)
     }
 }
 
-/// Reads changes up to the word that ends them.
+// The change that this word begins.
+fn read_change(alloc: Global, word: &Bytes, fields: &mut Fields) -> Result<Change, IntentError>
+    ensures { (change : AChange) (more : List (List ℕ)) → rule.IsTextChange change → word.now ∷ fields.old ≡ rule.change_fields change ++ more
+        → ReadsBack change more result fields.new }
+{
+    if is_word(word, "put") {
+        read_put(alloc, fields)
+    } else if is_word(word, "run") {
+        match read_request(alloc, fields) {
+            Ok(request) => Ok(Change::Run(request)),
+            Err(error) => Err(error),
+        }
+    } else {
+        match read_path(alloc, fields) {
+            Ok(path) => change_of_path(word, path),
+            Err(error) => Err(error),
+        }
+    }
+}
+
+/// Reads changes up to the word that ends them, and that word.
 pub(crate) fn read_changes(
     alloc: Global,
     fields: &mut Fields,
-) -> Result<Sequence<Change>, IntentError> {
+) -> Result<Sequence<Change>, IntentError>
+    ensures { (changes : List AChange) (more : List (List ℕ)) → All rule.IsTextChange changes → fields.old ≡ flat_map rule.change_fields changes ++ codes "end" ∷ more
+        → ReadsBack changes more result fields.new }
+{
     let mut changes = Sequence::new(alloc);
     for _ in 0..fields.len() {
         let Some(word) = fields.next() else {
             return Err(IntentError::Damaged);
         };
-        match read_change(alloc, &word, fields)? {
-            Some(change) => changes.push(change)?,
-            None => return Ok(changes),
+        if is_word(&word, "end") {
+            return Ok(changes);
+        }
+        match read_change(alloc, &word, fields) {
+            Ok(change) => changes.push(change)?,
+            Err(error) => return Err(error),
         }
     }
     Err(IntentError::Damaged)
