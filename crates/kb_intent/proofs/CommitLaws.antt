@@ -1,29 +1,28 @@
 -- A transaction is committed, or stops where one of its stores stands.
-use Rattle.std.proofs.Common.{◌≡◌, ◌⊎◌, ℕ, true, false, List, [], ◌∷◌, ◌++◌, Option, Some, None, Result, Ok, Err, refl, sym, ap, ◌∙◌, subst, inl, inr}
+use Rattle.std.proofs.Common.{◌≡◌, ◌⊎◌, ℕ, true, List, [], ◌++◌, Some, None, Result, Ok, Err, refl, sym, ap, ◌∙◌, subst, inl, inr}
 use Rattle.std.specs.Prelude.{option_map}
 use Rattle.std.specs.Option.{ForSome}
-use Rattle.kb_world.specs.Crash.{History, Adds, Turns}
+use Rattle.kb_world.specs.Crash.{Adds}
 use Rattle.kb_world.specs.Public.{intent_path, public_tree}
 use Rattle.kb_world.specs.Roots.{AreApart}
 use Rattle.kb_world.specs.State.{State}
 use Rattle.kb_world.specs.Stop.{stop_for}
 use Rattle.kb_world.specs.Tree.{Tree, node_at, is_dir}
 use Rattle.kb_world.specs.declared.child.Reply.{Reply}
-use Rattle.kb_world.specs.declared.refusal.Refusal.{Refusal}
 use Rattle.kb_world.specs.declared.roots.Roots.{Roots}
 use Rattle.kb_world.specs.declared.stop.Stop.{Stop}
 use Rattle.kb_world.specs.declared.stop.Stop.TheVariants as stops
 use Rattle.kb_world.specs.declared.world.WorldError.{WorldError}
 use Rattle.kb_world.specs.declared.world.WorldError.TheVariants.{Failed, NoMemory}
-use Rattle.kb_world.proofs.CrashLaws.{adds_wider, turns_wider, turns_none, turns_adds_more}
+use Rattle.kb_world.proofs.CrashLaws.{turns_wider, turns_none, turns_adds_more}
 use Rattle.kb_world.proofs.DoesLaws.{cause_then, lasts_then, unchanged_none}
 use Rattle.kb_world.proofs.Told.{told_before}
-use Rattle.kb_changes.specs.Change.{done, requests_of}
+use Rattle.kb_changes.specs.Change.{requests_of}
 use Rattle.kb_changes.specs.Text.{IsJournal}
 use Rattle.kb_changes.specs.Valid.{new_intent_path, is_valid}
 use Rattle.kb_changes.specs.declared.change.Intent.{Intent}
 use Rattle.kb_again.specs.Sparing.{AreSparing, areas_of}
-use Rattle.kb_machine.specs.Commits.{IsBareOf, Transacted, transacted, TurnsOver, IsCommitted, CommitLeaves, CommitSurvives, Commits}
+use Rattle.kb_machine.specs.Commits.{IsBareOf, Transacted, transacted, TurnsOver, IsCommitted, CommitLeaves, Commits}
 use Rattle.kb_machine.specs.Opens.{Opens}
 use Rattle.kb_machine.specs.Stands.{Stands, Rests}
 use Rattle.kb_machine.proofs.RestLaws.{rests_spares}

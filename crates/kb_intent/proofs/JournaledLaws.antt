@@ -1,7 +1,6 @@
 -- The tree with a journal opens what the transaction makes of the tree without it.
-use Rattle.std.proofs.Common.{◌≡◌, ◌⊎◌, ℕ, Bool, true, false, cond, ◌&&◌, ◌||◌, not, List, [], ◌∷◌, ◌++◌, Option, Some, None, codes, refl, sym, ap, ◌∙◌, subst, inl, inr}
+use Rattle.std.proofs.Common.{◌≡◌, ℕ, Bool, true, false, cond, ◌&&◌, ◌||◌, not, List, [], ◌∷◌, Option, Some, None, codes, refl, sym, ap, ◌∙◌, subst, inl}
 use Rattle.std.specs.List.{list_any}
-use Rattle.std.specs.FinMap.{retain_keys}
 use Rattle.std.proofs.lemmas.Bool.{true≢false, or_left}
 use Rattle.kb_world.specs.Area.{IsLeft}
 use Rattle.kb_world.specs.Path.{Path, is_under}
@@ -16,7 +15,7 @@ use Rattle.kb_world.specs.declared.roots.Roots.{Roots}
 use Rattle.kb_world.specs.declared.tree.Node.{Node}
 use Rattle.kb_world.proofs.PathLaws.{under-self}
 use Rattle.kb_world.proofs.PublicLaws.{node_at-public_tree}
-use Rattle.kb_changes.specs.Change.{done, requests_of, replies_of}
+use Rattle.kb_changes.specs.Change.{done}
 use Rattle.kb_changes.specs.Text.{IsJournal}
 use Rattle.kb_changes.specs.Valid.{written_roots, new_intent_path, is_kept_out, is_valid}
 use Rattle.kb_changes.specs.declared.change.Change.{Change}
@@ -36,7 +35,6 @@ use Rattle.kb_machine.specs.Stands.{Stands}
 use Rattle.kb_machine.proofs.AsideLaws.{aside_public, aside_journal}
 use Rattle.kb_machine.proofs.AsideThenLaws.{all_wider}
 use Rattle.kb_machine.proofs.RestLaws.{spared_public, spared_journal, rests_from}
-use Rattle.kb_intent.specs.Doing.{IsCutOffNow}
 use Rattle.kb_intent.specs.Finish.{HasJournal, store_after}
 use Rattle.kb_intent.specs.Journaling.{with_journal, is_begun_at}
 use Rattle.kb_intent.specs.Staging.{LeftBut}

@@ -1,16 +1,14 @@
 -- A journal is put beside its place, and moved there.
-use Rattle.std.proofs.Common.{◌≡◌, ◌⊎◌, ℕ, Bool, true, false, cond, ◌&&◌, ◌||◌, not, List, [], ◌∷◌, ◌++◌, Option, Some, None, is_some, Result, Ok, Err, refl, sym, ap, ◌∙◌, subst, inl, inr, arith, codes}
-use Rattle.std.specs.Prelude.{option_map, IsErrOf, IsTrue, OnOk}
-use Rattle.std.specs.List.{list_any}
-use Rattle.std.specs.Option.{ForSome}
+use Rattle.std.proofs.Common.{◌≡◌, ℕ, Bool, true, false, ◌&&◌, not, List, [], Option, Some, None, is_some, Result, Ok, Err, refl, sym, ap, ◌∙◌, subst, inl, inr, codes}
+use Rattle.std.specs.Prelude.{option_map, OnOk}
 use Rattle.std.specs.Cmp.Derive.{both_true}
 use Rattle.std.proofs.lemmas.Bool.{true≢false, or_left, or_right}
 use Rattle.kb_world.specs.Area.{IsLeft}
-use Rattle.kb_world.specs.Crash.{Adds, Turns, LeftOf}
+use Rattle.kb_world.specs.Crash.{LeftOf}
 use Rattle.kb_world.specs.Moves.{CanMove}
-use Rattle.kb_world.specs.Path.{Path, child, parent, is_under}
+use Rattle.kb_world.specs.Path.{Path, parent}
 use Rattle.kb_world.specs.Public.{intent_path}
-use Rattle.kb_world.specs.Roots.{based_roots, is_below, share_root}
+use Rattle.kb_world.specs.Roots.{is_below, share_root}
 use Rattle.kb_world.specs.State.{State, Changes, Puts}
 use Rattle.kb_world.specs.Tree.{Tree, node_at, with_node, without, edited, moved, is_dir, is_leaf, IsFormed, CanMake}
 use Rattle.kb_world.specs.TreeLaws.{same_path, same_path-true, same_path-refl, with_node-here, with_node-apart, remove-here, remove-apart}
@@ -23,8 +21,7 @@ use Rattle.kb_world.proofs.CrashLaws.{adds_turns, turns_none, turns_wider}
 use Rattle.kb_world.proofs.DoesLaws.{cause_then, ran_none_then, unchanged_none}
 use Rattle.kb_world.proofs.StepLaws.{parent-child, child-other}
 use Rattle.kb_changes.specs.Valid.{new_intent_path}
-use Rattle.kb_again.proofs.RootLaws.{same_last, child_above}
-use Rattle.kb_machine.specs.Aside.{IsSameBut}
+use Rattle.kb_again.proofs.RootLaws.{same_last}
 use Rattle.kb_walk.proofs.WalkLaws.{below_more}
 use Rattle.kb_intent.specs.Journaling.{with_journal, is_begun_at, IsJournaling, PutsJournal}
 use Rattle.kb_intent.specs.Staging.{LeftBut, ChangesBut}

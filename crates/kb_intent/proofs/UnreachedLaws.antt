@@ -1,14 +1,14 @@
 -- No change of a valid intent reaches the path at which a journal is begun, nor what is below it.
-use Rattle.std.proofs.Common.{◌≡◌, ◌⊎◌, ℕ, Bool, true, false, cond, ◌&&◌, ◌||◌, not, List, [], ◌∷◌, ◌++◌, length, drop, map, Option, Some, None, codes, refl, sym, ap, ◌∙◌, subst, inl, inr}
+use Rattle.std.proofs.Common.{◌≡◌, ℕ, Bool, true, false, cond, ◌&&◌, not, List, [], ◌∷◌, length, drop, map, None, codes, refl, sym, ap, ◌∙◌, inl, inr}
 use Rattle.std.specs.List.{list_all, list_any}
 use Rattle.std.specs.Cmp.{first_so, second_so}
 use Rattle.std.proofs.lemmas.Bool.{true≢false, or_cases}
-use Rattle.kb_world.specs.Area.{holds, is_named, is_among}
-use Rattle.kb_world.specs.Path.{Path, child, parent, is_under, are_apart}
+use Rattle.kb_world.specs.Area.{holds, is_among}
+use Rattle.kb_world.specs.Path.{Path, child, is_under, are_apart}
 use Rattle.kb_world.specs.Public.{staging_path}
 use Rattle.kb_world.specs.Roots.{AreApart, is_below}
 use Rattle.kb_world.specs.Script.{Script, tree_after, answer_in, edit_of}
-use Rattle.kb_world.specs.Tree.{Tree, node_at, with_node, without, moved, is_dir, is_leaf, name_in, sole}
+use Rattle.kb_world.specs.Tree.{Tree, node_at, with_node, without, moved, is_dir, name_in, sole}
 use Rattle.kb_world.specs.TreeLaws.{same_path-false, with_node-apart, remove-apart}
 use Rattle.kb_world.specs.View.{view_of}
 use Rattle.kb_world.specs.declared.child.Area.{Area}
@@ -17,11 +17,11 @@ use Rattle.kb_world.specs.declared.child.Request.{Request}
 use Rattle.kb_world.specs.declared.roots.Roots.{Roots}
 use Rattle.kb_world.specs.declared.tree.Node.TheVariants as nodes
 use Rattle.kb_world.proofs.PatchLaws.{tidied-apart}
-use Rattle.kb_world.proofs.PathLaws.{by_test, comparable, elsewhere, apart-back, under-self, under-above, under-append}
+use Rattle.kb_world.proofs.PathLaws.{by_test, comparable, elsewhere, apart-back, under-self, under-above}
 use Rattle.kb_world.proofs.PublicLaws.{WrittenApart, written_apart}
 use Rattle.kb_changes.specs.Change.{do_change, done, root_path, staged_path}
 use Rattle.kb_changes.specs.Groups.{drops_in, runs_in, staged_in}
-use Rattle.kb_changes.specs.Valid.{written_roots, new_intent_path, is_kept_out, is_initrd, is_changeable, is_well_placed, are_well_placed, is_fit_area, is_fit_run, is_kernel_name, are_fit_runs, is_valid}
+use Rattle.kb_changes.specs.Valid.{written_roots, new_intent_path, is_kept_out, is_changeable, is_well_placed, are_well_placed, is_fit_area, is_fit_run, is_kernel_name, are_fit_runs, is_valid}
 use Rattle.kb_changes.specs.declared.change.Change.{Change}
 use Rattle.kb_changes.specs.declared.change.Change.TheVariants.{Dir, Put, Drop, DropDir, Wipe, Run}
 use Rattle.kb_changes.specs.declared.change.RootName.{RootName}

@@ -47,11 +47,7 @@ fn put_journal<W: World>(
 /// Commits a transaction: once its journal stands its changes are done, and what was staged and the
 /// journal go. The replies are those of its runs. Whenever a crash comes the old store or the new
 /// one stands.
-pub fn commit<W: World>(
-    alloc: Global,
-    world: &mut W,
-    txn: Txn,
-) -> Result<Sequence<Reply>, Stop>
+pub fn commit<W: World>(alloc: Global, world: &mut W, txn: Txn) -> Result<Sequence<Reply>, Stop>
     requires rooted { ForSome (W.state world.old).tree (λ tree.
         (W.state world.old).roots ≡ txn.roots) }
     requires apart { AreApart txn.roots }

@@ -1,5 +1,5 @@
 -- The journal comes to stand, and the transaction is finished.
-use Rattle.std.proofs.Common.{sym, ap, ◌∙◌, subst, Ok, Err}
+use Rattle.std.proofs.Common.{sym, ◌∙◌, subst, Ok, Err}
 use Rattle.kb_changes.specs.Text.{IsJournal}
 use Rattle.kb_machine.specs.Commits.{transacted}
 use Rattle.kb_intent.specs.Finish.{Finishes}

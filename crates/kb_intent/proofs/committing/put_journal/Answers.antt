@@ -1,14 +1,11 @@
 -- The journal is put beside its place, and moved there.
-use Rattle.std.proofs.Common.{sym, ap, ◌∙◌, subst, refl, Ok, Err, false}
-use Rattle.std.specs.Prelude.{option_map}
+use Rattle.std.proofs.Common.{sym, ◌∙◌, subst, false}
 use Rattle.kb_world.specs.Moves.{CanMove}
-use Rattle.kb_world.specs.Public.{intent_path}
 use Rattle.kb_world.specs.Tree.{with_node}
 use Rattle.kb_world.specs.declared.tree.Node.TheVariants as nodes
 use Rattle.kb_world.proofs.Told.{told_before}
 use Rattle.kb_changes.specs.Valid.{new_intent_path}
 use Rattle.kb_intent.proofs.PutJournalLaws.{puts_wanting, puts_stopped, puts_moved, can_begin, can_move}
-use Rattle.kb_intent.proofs.UnreachedLaws.{unreached}
 use Rattle.kb_intent.proofs.committing.put_journal.Goals as goal
 
 pub returns-in-Err : goal.returns-in-Err
