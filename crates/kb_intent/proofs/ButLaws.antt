@@ -33,6 +33,7 @@ use Rattle.kb_intent.specs.Doing.{StepsTo, IsEitherOf, made_dir_at}
 use Rattle.kb_intent.specs.Staging.{LeftBut, IsNowBut, ChangesBut}
 use Rattle.kb_intent.specs.Txn.{StaysAside}
 use Rattle.kb_intent.proofs.StepsToLaws.{steps_by_call}
+use Rattle.kb_intent.proofs.StopLaws.{done_unrefused, done_cause, stop_unrefused, stop_cause, wanting_cause}
 
 -- ---- where a test holds of more
 
@@ -217,55 +218,14 @@ aside_but roots may change old new result aside c = record {
 -- ---- how it stays aside
 
 module _ {T : Type 0} (roots : Roots) where
-  abbrev stopped : Stop → Result T Stop
-  stopped stop = Err stop
-
   pub stays_done : {A : Type 0} (old new : State) (first : A) (value : T) → WorksAside roots old new → RanNone old new → HasCause {T = A} Failed old new (Ok first) → StaysAside roots old new (Ok value)
-  stays_done old new first value aside ran_none c = record {
-    aside = aside;
-    ran_none = ran_none;
-    unrefused = λ refusal e. let impossible : Ok value ≡ stopped (stops.Refused refusal) = e in cc;
-    cause = record {
-      later = c.later;
-      rose = λ e. let impossible : Ok value ≡ stopped stops.Fault = e in cc;
-      steady = c.steady;
-      never = λ told is e. let impossible : Ok value ≡ stopped stops.Fault = e in cc;
-    };
-  }
+  stays_done old new first value aside ran_none c = record { aside = aside; ran_none = ran_none; unrefused = done_unrefused value; cause = done_cause old new first value c }
 
   pub stays_stopped : {A : Type 0} (old new : State) (error : WorldError) (stop : Stop) → stop ≡ stop_for error → WorksAside roots old new → RanNone old new → HasCause {T = A} Failed old new (Err error)
       → StaysAside roots {T = T} old new (Err stop)
-  stays_stopped {A = A} old new error stop is aside ran_none c = subst (λ s. StaysAside roots {T = T} old new (Err s)) (sym is) (by error c)
-    where
-      by : (error : WorldError) → HasCause {T = A} Failed old new (Err error) → StaysAside roots {T = T} old new (Err (stop_for error))
-      by Failed c = record {
-        aside = aside;
-        ran_none = ran_none;
-        unrefused = λ refusal e. let impossible : stopped stops.Fault ≡ stopped (stops.Refused refusal) = e in cc;
-        cause = record { later = c.later; rose = λ e. c.rose refl; steady = c.steady; never = λ told is e. c.never told is refl };
-      }
-      by NoMemory c = record {
-        aside = aside;
-        ran_none = ran_none;
-        unrefused = λ refusal e. let impossible : stopped stops.NoMemory ≡ stopped (stops.Refused refusal) = e in cc;
-        cause = record {
-          later = c.later;
-          rose = λ e. let impossible : stopped stops.NoMemory ≡ stopped stops.Fault = e in cc;
-          steady = c.steady;
-          never = λ told is e. let impossible : stopped stops.NoMemory ≡ stopped stops.Fault = e in cc;
-        };
-      }
+  stays_stopped old new error stop is aside ran_none c = subst (λ s. StaysAside roots {T = T} old new (Err s)) (sym is)
+      (record { aside = aside; ran_none = ran_none; unrefused = stop_unrefused error; cause = stop_cause old new error c })
 
   -- nothing was done, for want of memory
   pub stays_wanting : (state : State) → StaysAside roots {T = T} state state (Err stops.NoMemory)
-  stays_wanting state = record {
-    aside = aside_none roots state;
-    ran_none = (unchanged_none state).ran_none;
-    unrefused = λ refusal e. let impossible : stopped stops.NoMemory ≡ stopped (stops.Refused refusal) = e in cc;
-    cause = record {
-      later = omega arith;
-      rose = λ e. let impossible : stopped stops.NoMemory ≡ stopped stops.Fault = e in cc;
-      steady = λ is. is;
-      never = λ told is e. let impossible : stopped stops.NoMemory ≡ stopped stops.Fault = e in cc;
-    };
-  }
+  stays_wanting state = stays_stopped {A = T} state state NoMemory stops.NoMemory refl (aside_none roots state) (unchanged_none state).ran_none (wanting_cause state)

@@ -2,12 +2,17 @@ pub mod ButLaws
 pub mod ChangeLaws
 pub mod ChangesLaws
 pub mod ClearingLaws
+pub mod CommitLaws
 pub mod DecimalLaws
 pub mod EndLaws
 pub mod FinishLaws
+pub mod JournaledLaws
 pub mod PlaceLaws
+pub mod PutJournalLaws
 pub mod RecoverLaws
 pub mod RunLaws
 pub mod StandingLaws
 pub mod StepsToLaws
+pub mod StopLaws
 pub mod TxnLaws
+pub mod UnreachedLaws
