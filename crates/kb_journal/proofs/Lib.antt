@@ -1,7 +1,9 @@
 pub mod EndLaws
 pub mod FieldLaws
+pub mod IntentLaws
 pub mod LeftLaws
 pub mod SpellLaws
 pub mod SplitLaws
+pub mod TellLaws
 pub mod TextLaws
 pub mod WordLaws

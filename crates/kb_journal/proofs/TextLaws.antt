@@ -78,7 +78,7 @@ abbrev pub last_fields : Intent → List (List ℕ)
 last_fields intent = rule.digest_field (rule.intent_body intent) ∷ [] ∷ []
 
 -- what stands behind the last word
-abbrev fields_of_changes : Intent → List (List ℕ)
+abbrev pub fields_of_changes : Intent → List (List ℕ)
 fields_of_changes intent = flat_map rule.change_fields intent.changes ++ codes "end" ∷ last_fields intent
 
 end_cut : (body : List ℕ) → slice_split is_field_end (rule.end_line body) ≡ codes "end" ∷ rule.digest_field body ∷ [] ∷ []
@@ -86,7 +86,7 @@ end_cut body =
     ap (slice_split is_field_end) (sym (append-nil (rule.end_line body)))
     ∙ line_cut (codes "end" ∷ rule.digest_field body ∷ []) (codes "end") (rule.digest_field body ∷ []) [] refl (both_true (plain_hex (sha256 body)) refl)
 
-intent_cut : (intent : Intent) → rule.AreTexts intent
+pub intent_cut : (intent : Intent) → rule.AreTexts intent
     → slice_split is_field_end (rule.intent_text intent) ≡ codes "kmodboot" ∷ codes "intent" ∷ codes "1" ∷ codes "words" ∷ (map rule.text_field intent.words ++ fields_of_changes intent)
 unfolding rule.intent_text
 intent_cut intent good =

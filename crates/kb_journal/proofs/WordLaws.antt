@@ -23,22 +23,28 @@ took got old new word is told = rw is at told
 two_words : (word name other : List ℕ) → bytes_eq word name ≡ true → word ≡ other → bytes_eq other name ≡ false → ⊥
 two_words word name other test is apart = let same : bytes_eq other name ≡ true = ap (λ w. bytes_eq w name) (sym is) ∙ test in cc
 
+cut : (word other : List ℕ) (rest others more : List (List ℕ)) → word ∷ rest ≡ (other ∷ others) ++ more → (word ≡ other) × (rest ≡ others ++ more)
+cut word other rest others more front = (cc, cc)
+
 -- ---- areas
 
-abbrev area_word : Area → List ℕ
+abbrev pub area_word : Area → List ℕ
 area_word Nothing = codes "nothing"
 area_word (Under _) = codes "under"
 area_word (Names _ _) = codes "names"
 
-abbrev area_rest : Area → List (List ℕ)
+abbrev pub area_rest : Area → List (List ℕ)
 area_rest Nothing = []
 area_rest (Under directory) = rule.path_field directory ∷ []
 area_rest (Names directory names) = rule.path_field directory ∷ rule.counted_fields (map rule.text_field names)
 
-area_split : (area : Area) (word : List ℕ) (rest more : List (List ℕ)) → word ∷ rest ≡ rule.area_fields area ++ more → (word ≡ area_word area) × (rest ≡ area_rest area ++ more)
-area_split Nothing word rest more front = (cc, cc)
-area_split (Under directory) word rest more front = (cc, cc)
-area_split (Names directory names) word rest more front = (cc, cc)
+pub area_fields_are : (area : Area) → rule.area_fields area ≡ area_word area ∷ area_rest area
+area_fields_are Nothing = refl
+area_fields_are (Under directory) = refl
+area_fields_are (Names directory names) = refl
+
+pub area_split : (area : Area) (word : List ℕ) (rest more : List (List ℕ)) → word ∷ rest ≡ rule.area_fields area ++ more → (word ≡ area_word area) × (rest ≡ area_rest area ++ more)
+area_split area word rest more front = cut word (area_word area) rest (area_rest area) more (front ∙ ap (λ fields. fields ++ more) (area_fields_are area))
 
 pub is_under_area : (area : Area) (word : List ℕ) (rest more : List (List ℕ)) → bytes_eq word (codes "under") ≡ true → rule.IsTextArea area → word ∷ rest ≡ rule.area_fields area ++ more
     → (directory : Path) × (Under directory ≡ area) × rule.IsTextPath directory × (rest ≡ rule.path_field directory ∷ more)
@@ -72,10 +78,7 @@ change_fields_are (DropDir path) = refl
 change_fields_are (Wipe path) = refl
 change_fields_are (Run request) = refl
 
-cut : (word other : List ℕ) (rest others more : List (List ℕ)) → word ∷ rest ≡ (other ∷ others) ++ more → (word ≡ other) × (rest ≡ others ++ more)
-cut word other rest others more front = (cc, cc)
-
-change_split : (change : Change) (word : List ℕ) (rest more : List (List ℕ)) → word ∷ rest ≡ rule.change_fields change ++ more → (word ≡ change_word change) × (rest ≡ change_rest change ++ more)
+pub change_split : (change : Change) (word : List ℕ) (rest more : List (List ℕ)) → word ∷ rest ≡ rule.change_fields change ++ more → (word ≡ change_word change) × (rest ≡ change_rest change ++ more)
 change_split change word rest more front =
     cut word (change_word change) rest (change_rest change) more (front ∙ ap (λ fields. fields ++ more) (change_fields_are change))
 
@@ -112,7 +115,7 @@ of_path_read change more left result is rest = rw is (refl, rest)
 pub some_fields : (change : Change) → 0 < length (rule.change_fields change)
 some_fields change = rw change_fields_are (omega arith)
 
-no_end : (change : Change) → bytes_eq (change_word change) (codes "end") ≡ false
+pub no_end : (change : Change) → bytes_eq (change_word change) (codes "end") ≡ false
 no_end (Dir path) = refl
 no_end (Put _ _ _) = refl
 no_end (Drop path) = refl

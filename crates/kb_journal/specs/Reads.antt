@@ -1,7 +1,9 @@
 -- What reading the fields of a journal gives. This project's own.
-use Rattle.std.specs.Prelude.{◌≡◌, ℕ, Bool, false, ◌||◌, List, nat_eq, bytes_eq, codes, Result, Ok, Err, IsErr}
+use Rattle.std.specs.Prelude.{◌≡◌, ℕ, Bool, false, ◌||◌, List, ◌∷◌, ◌++◌, map, nat_eq, bytes_eq, codes, Result, Ok, Err, IsErr}
 use Rattle.hex.specs.Hex.{decode_of}
 use Rattle.kb_world.specs.Path.{Path}
+use Rattle.kb_world.specs.declared.child.Request.{Request}
+use Rattle.kb_changes.specs.Text.{counted_fields, pair_fields, path_field, text_field}
 use Rattle.kb_changes.specs.declared.change.Change.{Change}
 use Rattle.kb_changes.specs.declared.change.Change.TheVariants.{Dir, Put, Drop, DropDir, Wipe, Run}
 use Rattle.kb_journal.specs.declared.error.IntentError.{IntentError}
@@ -24,6 +26,12 @@ ReadsBack value more (Err error) left = error ≡ NoMemory
 -- the field is that of no text
 abbrev pub IsNoText : List ℕ → Type 0
 IsNoText field = (bytes_eq field (codes "-") ≡ false) × IsErr (decode_of field)
+
+-- the fields of a request's lists, and more
+abbrev pub list_fields : Request → List (List ℕ) → List (List ℕ)
+list_fields request more =
+    codes "args" ∷ counted_fields (map text_field request.args)
+    ++ (codes "env" ∷ pair_fields request.env ++ (codes "seen" ∷ counted_fields (map path_field request.seen) ++ more))
 
 -- the change of this path that the word names
 abbrev pub IsPathChange : List ℕ → Path → Change → Type 0

@@ -30,7 +30,8 @@ impl Model for Fields {
 
 // What stands between the spaces and line feeds of a text.
 fn parts_of(alloc: Global, text: &[u8]) -> Result<Vec<&[u8]>, AllocError>
-    ensures { IfOk result (λ parts. map (λ part. part.now) parts.items ≡ slice_split is_field_end text.now) }
+    ensures { IfOk result (λ parts.
+        map (λ part. part.now) parts.items ≡ slice_split is_field_end text.now) }
 {
     text.split(|c| *c == b' ' || *c == b'\n').collect(alloc)
 }
@@ -65,7 +66,8 @@ impl Fields {
 
     /// Passes over the first field.
     pub fn skip(&mut self)
-        ensures { (field : List ℕ) (more : List (List ℕ)) → self.old ≡ field ∷ more → self.new ≡ more }
+        ensures { (field : List ℕ) (more : List (List ℕ)) → self.old ≡ field ∷ more
+            → self.new ≡ more }
     {
         self.next();
     }
@@ -93,9 +95,10 @@ pub(crate) fn is_word(field: &Bytes, word: &str) -> bool
     field.as_slice() == word.as_bytes()
 }
 
-// The text of a field that is one: a dash is the empty text, any other the hexadecimal of its bytes.
+// The text of a field that is one: of a dash the empty text, of others the bytes in hexadecimal.
 pub(crate) fn text_of(alloc: Global, field: &[u8]) -> Result<Option<Text>, IntentError>
-    ensures text { (text : List ℕ) → IsUtf8 text → field.now ≡ rule.text_field text → IsRead (Some text) result }
+    ensures text { (text : List ℕ) → IsUtf8 text → field.now ≡ rule.text_field text
+        → IsRead (Some text) result }
     ensures none { IsNoText field.now → IsRead None result }
     ensures failed { IfErr result (λ error. error ≡ NoMemory) }
 {

@@ -3,6 +3,7 @@
 
 mod error;
 mod fields;
+mod laws;
 mod read;
 mod read_change;
 mod read_list;
@@ -11,5 +12,6 @@ mod spell_change;
 mod write;
 
 pub use error::IntentError;
+pub use laws::a_text_has_one_intent;
 pub use read::read_intent;
 pub use write::write_intent;

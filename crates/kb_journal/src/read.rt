@@ -16,8 +16,9 @@ use std::alloc::Global;
 
 // Reads texts up to the first field that is none.
 fn read_words(alloc: Global, fields: &mut Fields) -> Result<Texts, IntentError>
-    ensures { (words : List (List ℕ)) (end : List ℕ) (more : List (List ℕ)) → All IsUtf8 words → IsNoText end
-        → fields.old ≡ map rule.text_field words ++ end ∷ more → ReadsBack words (end ∷ more) result fields.new }
+    ensures { (words : List (List ℕ)) (end : List ℕ) (more : List (List ℕ)) → All IsUtf8 words
+        → IsNoText end → fields.old ≡ map rule.text_field words ++ end ∷ more
+        → ReadsBack words (end ∷ more) result fields.new }
 {
     let mut words = Sequence::new(alloc);
     for _ in 0..fields.len() {
@@ -36,9 +37,11 @@ fn read_words(alloc: Global, fields: &mut Fields) -> Result<Texts, IntentError>
     Err(IntentError::Damaged)
 }
 
-// The intent of a text that may be a journal. What stands between the fields isn't looked at, nor the digest.
+// The intent of a text that may be a journal. What stands between the fields isn't looked at, nor
+// the digest.
 fn read_loosely(alloc: Global, text: &[u8]) -> Result<Intent, IntentError>
-    ensures { (intent : AnIntent) → rule.AreTexts intent → text.now ≡ rule.intent_text intent → IsRead intent result }
+    ensures { (intent : AnIntent) → rule.AreTexts intent → text.now ≡ rule.intent_text intent
+        → IsRead intent result }
 {
     let mut fields = Fields::of(alloc, text)?;
     // `kmodboot intent 1` and `words`
@@ -56,11 +59,14 @@ fn read_loosely(alloc: Global, text: &[u8]) -> Result<Intent, IntentError>
     }
 }
 
-/// The intent of a journal. A text is damaged exactly where no intent that is valid under these roots has it.
+/// The intent of a journal: the only one that has this text. A text is damaged exactly where no
+/// intent that is valid under these roots has it.
 pub fn read_intent(alloc: Global, text: &[u8], roots: &Roots) -> Result<Intent, IntentError>
     ensures intent { IfOk result (λ intent. rule.IsJournal roots.now text.now intent) }
-    ensures only { IfOk result (λ intent. (other : AnIntent) → rule.IsJournal roots.now text.now other → other ≡ intent) }
-    ensures damaged { IsErrOf result Damaged → (other : AnIntent) → rule.IsJournal roots.now text.now other → ⊥ }
+    ensures only { IfOk result (λ intent. (other : AnIntent)
+        → rule.IsJournal roots.now text.now other → other ≡ intent) }
+    ensures damaged { IsErrOf result Damaged → (other : AnIntent)
+        → rule.IsJournal roots.now text.now other → ⊥ }
 {
     let intent = match read_loosely(alloc, text) {
         Ok(intent) => intent,

@@ -6,7 +6,7 @@ ghost use Rattle.kb_changes.specs.Text as rule;
 ghost use Rattle.kb_changes.specs.declared.change.Change.{Change as AChange};
 ghost use Rattle.kb_changes.specs.declared.change.Change.TheVariants as changes;
 ghost use Rattle.kb_changes.specs.declared.change.RootName.{RootName as ARootName};
-ghost use Rattle.kb_journal.specs.Reads.{IsPathChange, ReadsBack};
+ghost use Rattle.kb_journal.specs.Reads.{IsPathChange, ReadsBack, list_fields};
 ghost use Rattle.kb_world.specs.Path.{Path as APath};
 ghost use Rattle.kb_world.specs.declared.child.Area.{Area as AnArea};
 ghost use Rattle.kb_world.specs.declared.child.Area.TheVariants as areas;
@@ -21,8 +21,10 @@ use std::alloc::Global;
 
 // A directory and the names in it.
 fn read_names(alloc: Global, fields: &mut Fields) -> Result<Area, IntentError>
-    ensures { (directory : APath) (names more : List (List ℕ)) → rule.IsTextPath directory → All IsUtf8 names → length names < 2 ^ 64
-        → fields.old ≡ rule.path_field directory ∷ rule.counted_fields (map rule.text_field names) ++ more
+    ensures { (directory : APath) (names more : List (List ℕ)) → rule.IsTextPath directory
+        → All IsUtf8 names → length names < 2 ^ 64
+        → fields.old ≡ rule.path_field directory
+        ∷ rule.counted_fields (map rule.text_field names) ++ more
         → ReadsBack (areas.Names directory names) more result fields.new }
 {
     let directory = match read_path(alloc, fields) {
@@ -36,7 +38,8 @@ fn read_names(alloc: Global, fields: &mut Fields) -> Result<Area, IntentError>
 }
 
 fn read_area(alloc: Global, fields: &mut Fields) -> Result<Area, IntentError>
-    ensures { (area : AnArea) (more : List (List ℕ)) → rule.IsTextArea area → fields.old ≡ rule.area_fields area ++ more
+    ensures { (area : AnArea) (more : List (List ℕ)) → rule.IsTextArea area
+        → fields.old ≡ rule.area_fields area ++ more
         → ReadsBack area more result fields.new }
 {
     let Some(word) = fields.next() else {
@@ -58,7 +61,8 @@ fn read_area(alloc: Global, fields: &mut Fields) -> Result<Area, IntentError>
 
 // The program, the directory and the area.
 fn read_head(alloc: Global, fields: &mut Fields) -> Result<(Text, Path, Area), IntentError>
-    ensures { (request : ARequest) (more : List (List ℕ)) → rule.IsTextHead request → fields.old ≡ rule.head_fields request ++ more
+    ensures { (request : ARequest) (more : List (List ℕ)) → rule.IsTextHead request
+        → fields.old ≡ rule.head_fields request ++ more
         → ReadsBack (request.program, request.dir, request.area) more result fields.new }
 {
     let program = match read_text(alloc, fields) {
@@ -80,8 +84,7 @@ type Lists = (Texts, Sequence<(Text, Text)>, Sequence<Path>);
 // The arguments, the variables and the paths whose files are read.
 fn read_lists(alloc: Global, fields: &mut Fields) -> Result<Lists, IntentError>
     ensures { (request : ARequest) (more : List (List ℕ)) → rule.IsTextRequest request
-        → fields.old ≡ codes "args" ∷ rule.counted_fields (map rule.text_field request.args) ++ (codes "env" ∷ rule.pair_fields request.env
-        ++ (codes "seen" ∷ rule.counted_fields (map rule.path_field request.seen) ++ more))
+        → fields.old ≡ list_fields request more
         → ReadsBack (request.args, request.env, request.seen) more result fields.new }
 {
     fields.skip();
@@ -102,7 +105,8 @@ fn read_lists(alloc: Global, fields: &mut Fields) -> Result<Lists, IntentError>
 }
 
 fn read_request(alloc: Global, fields: &mut Fields) -> Result<Request, IntentError>
-    ensures { (request : ARequest) (more : List (List ℕ)) → rule.IsTextRequest request → fields.old ≡ rule.request_fields request ++ more
+    ensures { (request : ARequest) (more : List (List ℕ)) → rule.IsTextRequest request
+        → fields.old ≡ rule.request_fields request ++ more
         → ReadsBack request more result fields.new }
 {
     let (program, dir, area) = match read_head(alloc, fields) {
@@ -124,7 +128,8 @@ fn read_request(alloc: Global, fields: &mut Fields) -> Result<Request, IntentErr
 }
 
 fn read_root(fields: &mut Fields) -> Result<RootName, IntentError>
-    ensures { (root : ARootName) (more : List (List ℕ)) → fields.old ≡ rule.root_field root ∷ more → ReadsBack root more result fields.new }
+    ensures { (root : ARootName) (more : List (List ℕ)) → fields.old ≡ rule.root_field root ∷ more
+        → ReadsBack root more result fields.new }
 {
     let Some(word) = fields.next() else {
         return Err(IntentError::Damaged);
@@ -144,7 +149,8 @@ fn read_root(fields: &mut Fields) -> Result<RootName, IntentError>
 
 // The root, the number and the target.
 fn read_put(alloc: Global, fields: &mut Fields) -> Result<Change, IntentError>
-    ensures { (root : ARootName) (number : ℕ) (target : APath) (more : List (List ℕ)) → number < 2 ^ 64 → rule.IsTextPath target
+    ensures { (root : ARootName) (number : ℕ) (target : APath) (more : List (List ℕ))
+        → number < 2 ^ 64 → rule.IsTextPath target
         → fields.old ≡ rule.root_field root ∷ decimal number ∷ rule.path_field target ∷ more
         → ReadsBack (changes.Put root number target) more result fields.new }
 {
@@ -185,7 +191,8 @@ fn change_of_path(word: &Bytes, path: Path) -> Result<Change, IntentError>
 
 // The change that this word begins.
 fn read_change(alloc: Global, word: &Bytes, fields: &mut Fields) -> Result<Change, IntentError>
-    ensures { (change : AChange) (more : List (List ℕ)) → rule.IsTextChange change → word.now ∷ fields.old ≡ rule.change_fields change ++ more
+    ensures { (change : AChange) (more : List (List ℕ)) → rule.IsTextChange change
+        → word.now ∷ fields.old ≡ rule.change_fields change ++ more
         → ReadsBack change more result fields.new }
 {
     if is_word(word, "put") {
@@ -208,7 +215,8 @@ pub(crate) fn read_changes(
     alloc: Global,
     fields: &mut Fields,
 ) -> Result<Sequence<Change>, IntentError>
-    ensures { (changes : List AChange) (more : List (List ℕ)) → All rule.IsTextChange changes → fields.old ≡ flat_map rule.change_fields changes ++ codes "end" ∷ more
+    ensures { (changes : List AChange) (more : List (List ℕ)) → All rule.IsTextChange changes
+        → fields.old ≡ flat_map rule.change_fields changes ++ codes "end" ∷ more
         → ReadsBack changes more result fields.new }
 {
     let mut changes = Sequence::new(alloc);

@@ -14,7 +14,8 @@ use std::str;
 
 /// Reads a text.
 pub(crate) fn read_text(alloc: Global, fields: &mut Fields) -> Result<Text, IntentError>
-    ensures { (text : List ℕ) (more : List (List ℕ)) → IsUtf8 text → fields.old ≡ rule.text_field text ∷ more → ReadsBack text more result fields.new }
+    ensures { (text : List ℕ) (more : List (List ℕ)) → IsUtf8 text
+        → fields.old ≡ rule.text_field text ∷ more → ReadsBack text more result fields.new }
 {
     match fields.next() {
         Some(field) => match text_of(alloc, field.as_slice()) {
@@ -38,7 +39,8 @@ fn path_of(alloc: Global, text: &str) -> Result<Path, IntentError>
 
 /// Reads a path.
 pub(crate) fn read_path(alloc: Global, fields: &mut Fields) -> Result<Path, IntentError>
-    ensures { (path : APath) (more : List (List ℕ)) → rule.IsTextPath path → fields.old ≡ rule.path_field path ∷ more → ReadsBack path more result fields.new }
+    ensures { (path : APath) (more : List (List ℕ)) → rule.IsTextPath path
+        → fields.old ≡ rule.path_field path ∷ more → ReadsBack path more result fields.new }
 {
     match read_text(alloc, fields) {
         Ok(text) => path_of(alloc, text.as_str()),
@@ -60,7 +62,8 @@ fn number_of(field: &[u8]) -> Result<u64, IntentError>
 
 /// Reads a number.
 pub(crate) fn read_number(fields: &mut Fields) -> Result<u64, IntentError>
-    ensures { (number : ℕ) (more : List (List ℕ)) → number < 2 ^ 64 → fields.old ≡ decimal number ∷ more → ReadsBack number more result fields.new }
+    ensures { (number : ℕ) (more : List (List ℕ)) → number < 2 ^ 64
+        → fields.old ≡ decimal number ∷ more → ReadsBack number more result fields.new }
 {
     match fields.next() {
         Some(field) => number_of(field.as_slice()),
@@ -71,7 +74,8 @@ pub(crate) fn read_number(fields: &mut Fields) -> Result<u64, IntentError>
 /// Reads a count and so many texts.
 pub(crate) fn read_texts(alloc: Global, fields: &mut Fields) -> Result<Texts, IntentError>
     ensures { (texts more : List (List ℕ)) → All IsUtf8 texts → length texts < 2 ^ 64
-        → fields.old ≡ rule.counted_fields (map rule.text_field texts) ++ more → ReadsBack texts more result fields.new }
+        → fields.old ≡ rule.counted_fields (map rule.text_field texts) ++ more
+        → ReadsBack texts more result fields.new }
 {
     let count = match read_number(fields) {
         Ok(count) => count,
@@ -89,8 +93,10 @@ pub(crate) fn read_texts(alloc: Global, fields: &mut Fields) -> Result<Texts, In
 
 /// Reads a count and so many paths.
 pub(crate) fn read_paths(alloc: Global, fields: &mut Fields) -> Result<Sequence<Path>, IntentError>
-    ensures { (paths : List APath) (more : List (List ℕ)) → All rule.IsTextPath paths → length paths < 2 ^ 64
-        → fields.old ≡ rule.counted_fields (map rule.path_field paths) ++ more → ReadsBack paths more result fields.new }
+    ensures { (paths : List APath) (more : List (List ℕ)) → All rule.IsTextPath paths
+        → length paths < 2 ^ 64
+        → fields.old ≡ rule.counted_fields (map rule.path_field paths) ++ more
+        → ReadsBack paths more result fields.new }
 {
     let count = match read_number(fields) {
         Ok(count) => count,
@@ -125,7 +131,8 @@ pub(crate) fn read_pairs(
     alloc: Global,
     fields: &mut Fields,
 ) -> Result<Sequence<(Text, Text)>, IntentError>
-    ensures { (pairs : List (List ℕ × List ℕ)) (more : List (List ℕ)) → rule.AreTextPairs pairs → length pairs < 2 ^ 64
+    ensures { (pairs : List (List ℕ × List ℕ)) (more : List (List ℕ)) → rule.AreTextPairs pairs
+        → length pairs < 2 ^ 64
         → fields.old ≡ rule.pair_fields pairs ++ more → ReadsBack pairs more result fields.new }
 {
     let count = match read_number(fields) {
