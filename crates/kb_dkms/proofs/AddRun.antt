@@ -1,16 +1,15 @@
 -- `dkms add` is committed: what stands before its commit, and how the whole ends.
-use Rattle.std.proofs.Common.{◌≡◌, ℕ, suc, zero, Bool, true, false, cond, List, [], ◌∷◌, ◌++◌, map, filter, Option, Some, None, is_some, refl, sym, ap, ◌∙◌, subst}
+use Rattle.std.proofs.Common.{◌≡◌, ℕ, suc, zero, true, cond, List, [], ◌∷◌, ◌++◌, map, Option, Some, None, refl, sym, ap, ◌∙◌, subst}
 use Rattle.std.specs.Prelude.{Result, Ok, Err, codes}
 use Rattle.std.specs.List.{slice_get}
 use Rattle.std.specs.Option.{ForSome, option_or}
 use Rattle.kb_world.specs.Path.{Path, is_under}
 use Rattle.kb_world.specs.Public.{intent_path}
 use Rattle.kb_world.specs.Tree.{Tree, node_at, is_dir, IsFormed}
-use Rattle.kb_world.specs.Script.{Script}
-use Rattle.kb_world.specs.State.{State, HasCause}
+use Rattle.kb_world.specs.State.{State}
 use Rattle.kb_world.specs.Roots.{AreApart}
-use Rattle.kb_world.specs.Steps.{add_blocked, add_patch, blocking}
-use Rattle.kb_world.specs.Store.{is_key, module_path, version_path, link_path, source_path, source_text}
+use Rattle.kb_world.specs.Steps.{add_patch, blocking}
+use Rattle.kb_world.specs.Store.{is_key, module_path, version_path, link_path, source_text}
 use Rattle.kb_world.specs.declared.child.Reply.{Reply}
 use Rattle.kb_world.specs.declared.child.Request.{Request}
 use Rattle.kb_world.specs.declared.roots.Roots.{Roots}
@@ -24,13 +23,12 @@ use Rattle.kb_world.specs.declared.stop.Stop.TheVariants.{Refused, Fault, NoMemo
 use Rattle.kb_world.proofs.PathLaws.{under-append}
 use Rattle.kb_world.proofs.StepLaws.{blocking-same}
 use Rattle.kb_changes.specs.Change.{staged_path}
-use Rattle.kb_changes.specs.Changes.{nodes_of, root_of, same_root, Staged, staged_below, HasStaged}
+use Rattle.kb_changes.specs.Changes.{nodes_of, root_of, same_root, staged_below, HasStaged}
 use Rattle.kb_changes.specs.Valid.{is_valid, new_intent_path}
 use Rattle.kb_changes.specs.declared.change.Change.{Change}
 use Rattle.kb_changes.specs.declared.change.RootName.{RootName}
 use Rattle.kb_changes.specs.declared.change.RootName.TheVariants as root_name
 use Rattle.kb_machine.specs.Across.{SaysSo, DoesAcrossCrashes}
-use Rattle.kb_machine.specs.Aside.{is_aside, IsSameBut}
 use Rattle.kb_machine.specs.Commits.{Commits, transacted}
 use Rattle.kb_machine.proofs.AsideLaws.{does_aside, aside_stops, IsUnrefused}
 use Rattle.kb_machine.proofs.CommitLaws.{does_commit, does_uncommitted, does_untold}
@@ -40,7 +38,7 @@ use Rattle.kb_dkms.specs.declared.places.Places.{Places}
 use Rattle.kb_dkms.specs.Add.{add_and_run, added_line}
 use Rattle.kb_dkms.specs.Commit.{CanAdd, script_asked, changes_of_add, endings, HasLinkStaged, Prepares}
 use Rattle.kb_dkms.specs.Places.{package_places}
-use Rattle.kb_dkms.proofs.AddLaws.{ArePublic, are_public}
+use Rattle.kb_dkms.proofs.AddLaws.{are_public}
 use Rattle.kb_dkms.proofs.CommitAdd.{IsReadyToAdd, add_says, add_valid}
 use Rattle.kb_dkms.proofs.PrepareLaws.{ToldBefore, before_aside, open_aside, dkms_open, intent_kept}
 

@@ -5,3 +5,4 @@ mod CommitAdd
 mod DoesAdd
 mod PrepareLaws
 mod ScriptLaws
+mod WantLaws

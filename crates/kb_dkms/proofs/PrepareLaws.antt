@@ -1,32 +1,30 @@
 -- The transaction of an add is put together aside from all that counts.
-use Rattle.std.proofs.Common.{◌≡◌, ◌⊎◌, ℕ, Bool, true, false, ◌&&◌, ◌||◌, not, List, [], ◌∷◌, ◌++◌, Option, Some, None, is_some, refl, sym, ap, ◌∙◌, subst}
+use Rattle.std.proofs.Common.{◌≡◌, ℕ, Bool, true, false, ◌&&◌, not, List, [], ◌∷◌, ◌++◌, Option, Some, None, is_some, refl, sym, ap, ◌∙◌, subst}
 use Rattle.std.proofs.lemmas.List.{append-nil}
-use Rattle.std.specs.Prelude.{Result, Ok, Err, IfOk, codes, IsErrOf}
+use Rattle.std.specs.Prelude.{Result, Ok, Err, codes, IsErrOf}
 use Rattle.std.specs.Option.{ForSome}
-use Rattle.kb_world.specs.Path.{Path, is_under}
-use Rattle.kb_world.specs.Public.{intent_path, staging_path, is_private, is_public, is_loose}
+use Rattle.kb_world.specs.Path.{Path}
+use Rattle.kb_world.specs.Public.{intent_path, is_private}
 use Rattle.kb_world.specs.Roots.{AreApart}
-use Rattle.kb_world.specs.State.{State, HasCause, Lasts}
+use Rattle.kb_world.specs.State.{State}
 use Rattle.kb_world.specs.Tree.{Tree, node_at, is_dir}
 use Rattle.kb_world.specs.declared.child.Request.{Request}
 use Rattle.kb_world.specs.declared.job.Job.{Job}
 use Rattle.kb_world.specs.declared.roots.Roots.{Roots}
 use Rattle.kb_world.specs.declared.stop.Stop.{Stop}
 use Rattle.kb_world.specs.declared.stop.Stop.TheVariants.{Refused, Fault, NoMemory}
-use Rattle.kb_world.specs.declared.tree.Node.{Node}
 use Rattle.kb_world.specs.declared.tree.Node.TheVariants as node
 use Rattle.kb_world.proofs.DoesLaws.{cause_then, cause_other, ran_none_then}
 use Rattle.kb_world.proofs.PathLaws.{under-self, under-beside}
 use Rattle.kb_world.proofs.PublicLaws.{IsAlwaysPublic, in_dkms}
 use Rattle.kb_changes.specs.Change.{staged_path}
 use Rattle.kb_changes.specs.Valid.{new_intent_path}
-use Rattle.kb_changes.specs.declared.change.Change.{Change}
 use Rattle.kb_changes.specs.declared.change.RootName.TheVariants as root_name
 use Rattle.kb_machine.specs.Aside.{is_aside, IsSameBut, WorksAside}
 use Rattle.kb_machine.proofs.AsideThenLaws.{aside_then}
-use Rattle.kb_intent.specs.Txn.{StaysAside, Begins, IsBegun, IsCleared, Stages, IsStaged, IsStagedFor, AreStagedFor, none_staged, with_count, with_staged}
+use Rattle.kb_intent.specs.Txn.{StaysAside, Begins, Stages, IsStagedFor, AreStagedFor, none_staged}
 use Rattle.kb_intent.specs.declared.txn.Txn.{Txn}
-use Rattle.kb_dkms.specs.Commit.{changes_of_add, IsPrepared, HasLinkStaged, Prepares}
+use Rattle.kb_dkms.specs.Commit.{changes_of_add, HasLinkStaged, Prepares}
 use Rattle.kb_dkms.specs.declared.places.Places.{Places}
 
 -- ---- what is public isn't aside

@@ -17,7 +17,7 @@ use crate::places::{find_places, require_unadded, require_unblocked};
 use crate::preparing::prepare;
 use crate::scripts::{Source, find_script, push_endings, push_warning};
 use kb_conf::{Conf, Given, load_conf};
-use crate::committing::commit;
+use kb_intent::commit;
 use kb_world::{Bytes, Job, Key, Report, Stop, Text, World};
 use std::alloc::{AllocError, Global};
 

@@ -2,7 +2,6 @@
 #![tactic(auto)]
 
 mod adding;
-mod committing;
 mod places;
 mod preparing;
 mod scripts;

@@ -1,24 +1,25 @@
 -- The link stands and its script is run by one commit.
-use Rattle.std.proofs.Common.{refl, ◌∙◌}
+use Rattle.std.proofs.Common.{◌++◌, ap, ◌∙◌}
 use Rattle.kb_dkms.specs.Add.{add_and_run}
-use Rattle.kb_machine.proofs.EachLaws.{unprinted}
+use Rattle.kb_dkms.specs.Commit.{endings}
 use Rattle.kb_dkms.proofs.AddRun.{unprepared_add, add_is_valid, root_there, bare_there, did_add, stopped_add, untold_add}
+use Rattle.kb_dkms.proofs.WantLaws.{wants_first, answers_wanting}
 use Rattle.kb_dkms.proofs.adding.add_and_run.Goals as goal
 
 pub returns-in_err-line : goal.returns-in_err-line
 returns-in_err-line g c =
     let host = c.args.source.job.now.host in
-    unprinted host.roots (add_and_run host (g.W.World.state c.args.world.now).script c.args.source.key.now c.args.conf.now) (g.W.World.state c.args.world.now) c.args.report.now _
+    wants_first host.roots (add_and_run host (g.W.World.state c.args.world.now).script c.args.source.key.now c.args.conf.now) (g.W.World.state c.args.world.now) c.args.report.now _ c.from_residual.result c.from_residual.ensures.1
 
 pub returns-in_err-push : goal.returns-in_err-push
 returns-in_err-push g c =
     let host = c.args.source.job.now.host in
-    unprinted host.roots (add_and_run host (g.W.World.state c.args.world.now).script c.args.source.key.now c.args.conf.now) (g.W.World.state c.args.world.now) c.args.report.now _
+    wants_first host.roots (add_and_run host (g.W.World.state c.args.world.now).script c.args.source.key.now c.args.conf.now) (g.W.World.state c.args.world.now) c.args.report.now _ c.from_residual-in_err-push.result c.from_residual-in_err-push.ensures.1
 
 pub returns-in_err-request : goal.returns-in_err-request
 returns-in_err-request g c =
     let host = c.args.source.job.now.host in
-    unprinted host.roots (add_and_run host (g.W.World.state c.args.world.now).script c.args.source.key.now c.args.conf.now) (g.W.World.state c.args.world.now) c.args.report.now _
+    wants_first host.roots (add_and_run host (g.W.World.state c.args.world.now).script c.args.source.key.now c.args.conf.now) (g.W.World.state c.args.world.now) c.args.report.now _ c.from_residual-in_err-request.result c.from_residual-in_err-request.ensures.1
 
 pub returns-in-Err : goal.returns-in-Err
 returns-in-Err g c =
@@ -53,12 +54,14 @@ returns-in-Err-commit g c =
 pub returns-in_err-push_endings : goal.returns-in_err-push_endings
 returns-in_err-push_endings g c =
     let source = c.args.source in
-    untold_add source.job.now.host c.requires.apart source.key.now c.requires.named c.args.conf.now source.places.now c.requires.places _ c.as_ref.ensures.value c.in_ok-request.request c.in_ok-request.ensures _ _
-    c.requires.can (g.met.W.World.formed c.args.world.now) c.in-Ok.txn c.in-Ok.ensures (g.met.W.World.formed c.prepare.new.world) _ c.args.report.now _ c.in-Ok-commit.replies c.in-Ok-commit.ensures
+    let host = source.job.now.host in
+    answers_wanting host.roots (add_and_run host (g.W.World.state c.args.world.now).script source.key.now c.args.conf.now) _ _ c.args.report.now _ c.from_residual-in_err-push_endings.result c.from_residual-in_err-push_endings.ensures.1
+    (untold_add source.job.now.host c.requires.apart source.key.now c.requires.named c.args.conf.now source.places.now c.requires.places _ c.as_ref.ensures.value c.in_ok-request.request c.in_ok-request.ensures _ _
+    c.requires.can (g.met.W.World.formed c.args.world.now) c.in-Ok.txn c.in-Ok.ensures (g.met.W.World.formed c.prepare.new.world) _ c.args.report.now _ c.in-Ok-commit.replies c.in-Ok-commit.ensures)
 
 pub returns : goal.returns
 returns g c =
     let source = c.args.source in
     did_add source.job.now.host c.requires.apart source.key.now c.requires.named c.args.conf.now source.places.now c.requires.places _ c.as_ref.ensures.value c.in_ok-request.request c.in_ok-request.ensures _ _
     c.requires.can (g.met.W.World.formed c.args.world.now) c.in-Ok.txn c.in-Ok.ensures (g.met.W.World.formed c.prepare.new.world) _ c.args.report.now _ c.in-Ok-commit.replies c.in-Ok-commit.ensures
-    c.as_bytes.result.now (c.as_bytes.ensures.value ∙ c.in_ok-line.ensures.ok) c.in_ok-push.ensures.ok c.in_ok-push_endings.ensures
+    c.as_bytes.result.now (c.as_bytes.ensures.value ∙ c.in_ok-line.ensures.ok) c.in_ok-push.ensures.ok (c.in_ok-push_endings.ensures ∙ ap (λ replies. c.args.report.now.err ++ endings replies) c.as_slice.ensures)

@@ -1,26 +1,23 @@
-use Rattle.std.proofs.Common.{rules, ◌≡◌, ◌++◌, IsTrue, OnOk, None, true, ℕ, ◌+◌, ◌-◌, ◌*◌, ◌<◌, ◌≤◌, length, ◌/◌, ◌%◌, Bool, false, nat_eq, nat_lt, List, [], ◌∷◌, slice_index_or, slice_set, bit_and, bit_or, Fits, w8, w32, w64, Bor, MutBor}
-use Rattle.std.specs.Option.{ForSome}
-use Rattle.kb_world.specs.Tree.{node_at, is_dir}
-use Rattle.kb_world.specs.Public.{intent_path, public_tree}
-use Rattle.kb_world.specs.Roots.{AreApart}
-use Rattle.kb_world.specs.Store.{is_key}
-use Rattle.kb_world.specs.Damage.{hurt}
-use Rattle.kb_machine.specs.Across.{DoesAcrossCrashes}
-use Rattle.kb_dkms.specs.Add as action
-use Rattle.kb_dkms.specs.Commit.{CanAdd, IsUnadded}
-use Rattle.kb_dkms.specs.Host.{host_keeps_rules}
-use Rattle.kb_dkms.specs.Places.{package_places}
-use Rattle.kb_dkms.specs.Scripts.{host_given}
+-- The warnings come first, and then what is in the way is looked at.
+use Rattle.std.proofs.Common.{refl}
+use Rattle.kb_dkms.specs.Add.{add_with}
+use Rattle.kb_dkms.proofs.DoesAdd.{warned_blocked, warned_added}
+use Rattle.kb_dkms.proofs.WantLaws.{wants_first}
 use Rattle.kb_dkms.proofs.adding.add_with.Goals as goal
 
--- src/adding.rt:83:5
 pub returns-in_err-warn_unused : goal.returns-in_err-warn_unused
-returns-in_err-warn_unused g c = ?
+returns-in_err-warn_unused g c =
+    let host = c.args.source.job.now.host in
+    wants_first host.roots (add_with host (g.W.World.state c.args.world.now).script c.args.source.key.now c.args.conf.now) (g.W.World.state c.args.world.now) c.args.report.now _ c.from_residual.result c.from_residual.ensures.1
 
--- src/adding.rt:86:22
 pub returns-in-Err : goal.returns-in-Err
-returns-in-Err g c = ?
+returns-in-Err g c =
+    let source = c.args.source in
+    warned_blocked source.job.now.host c.requires.apart source.key.now c.requires.named (g.W.World.state c.args.world.now).script c.args.conf.now source.places.now c.requires.places _ _
+    c.args.report.now _ c.in-Err.stop refl c.as_slice.result.now c.as_slice.ensures c.in_ok-warn_unused.ensures c.in-Err.ensures
 
--- src/adding.rt:68:1
 pub returns : goal.returns
-returns g c = ?
+returns g c =
+    let source = c.args.source in
+    warned_added source.job.now.host c.requires.apart source.key.now c.requires.named c.args.conf.now source.places.now c.requires.places _ _ _
+    c.args.report.now _ _ c.add_and_run.result refl c.as_slice.result.now c.as_slice.ensures c.in_ok-warn_unused.ensures c.in-Ok.ensures c.add_and_run.ensures
