@@ -22,7 +22,7 @@ use Rattle.kb_changes.specs.Valid.{new_intent_path}
 use Rattle.kb_changes.specs.declared.change.RootName.TheVariants as root_name
 use Rattle.kb_machine.specs.Aside.{is_aside, IsSameBut, WorksAside}
 use Rattle.kb_machine.proofs.AsideThenLaws.{aside_then}
-use Rattle.kb_intent.specs.Txn.{StaysAside, Begins, Stages, IsStagedFor, AreStagedFor, none_staged}
+use Rattle.kb_intent.specs.Txn.{StaysAside, BeginsTransaction, Stages, IsStagedFor, AreStagedFor, none_staged}
 use Rattle.kb_intent.specs.declared.txn.Txn.{Txn}
 use Rattle.kb_dkms.specs.Commit.{changes_of_add, HasLinkStaged, Prepares}
 use Rattle.kb_dkms.specs.declared.places.Places.{Places}
@@ -109,7 +109,7 @@ pub with_text : (text said : List ℕ) (before after : Txn) (old new : State) (r
     → Stages root_name.Dkms (node.Link said) before after old new result → Stages root_name.Dkms (node.Link text) before after old new result
 with_text text said before after old new result is s = subst (λ t. Stages root_name.Dkms (node.Link t) before after old new result) is s
 
-module _ (job : Job) (places : Places) (request : Option Request) (old mid : State) (begun : Txn) (b : Begins job old mid (Ok begun)) where
+module _ (job : Job) (places : Places) (request : Option Request) (old mid : State) (begun : Txn) (b : BeginsTransaction job old mid (Ok begun)) where
   abbrev roots : Roots
   roots = job.host.roots
 

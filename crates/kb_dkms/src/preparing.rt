@@ -30,7 +30,7 @@ fn add_changes(txn: &mut Txn, places: &Places, request: Option<Request>) -> Resu
     }
 }
 
-/// Begins a transaction of the job, stages the link of the package, and adds the changes that make it, with its script
+/// BeginsTransaction a transaction of the job, stages the link of the package, and adds the changes that make it, with its script
 /// behind them.
 pub(crate) fn prepare<W: World>(
     alloc: Global,

@@ -27,7 +27,7 @@ use Rattle.kb_machine.specs.Opens.{Opens}
 use Rattle.kb_machine.specs.Stands.{Stands, Rests}
 use Rattle.kb_machine.proofs.RestLaws.{rests_spares}
 use Rattle.kb_walk.proofs.WipeCalls.{HasFormedTree}
-use Rattle.kb_intent.specs.Finish.{HasJournal, store_after, IsFinished, KeepsOpening, Finishes}
+use Rattle.kb_intent.specs.Finish.{HasJournal, store_after, IsFinished, KeepsOpening, EndsTransaction}
 use Rattle.kb_intent.specs.Journaling.{with_journal, PutsJournal}
 use Rattle.kb_intent.specs.declared.changing.Ran.{Ran}
 use Rattle.kb_intent.proofs.JournaledLaws.{sparing_more, has_journal, same_done, same_cleaned, second_is, early_bare, early_stands, late_opens, late_stands}
@@ -124,7 +124,7 @@ module _ (roots : Roots) (intent : Intent) (text : List ℕ) (apart : AreApart r
             (subst (λ script. Adds (λ image. Opens roots script image (second_of tree)) mid.history new.history) p.ran_none.lasts.script kept.each_moment)
 
       -- it came about
-      pub commits_done : (ran : Ran) → Finishes roots intent.changes mid new (Ok ran) → Commits roots made old new (Ok ran.replies)
+      pub commits_done : (ran : Ran) → EndsTransaction roots intent.changes mid new (Ok ran) → Commits roots made old new (Ok ran.replies)
       commits_done ran f = record {
         done = λ tree told.
             let finished : IsFinished roots intent.changes mid new (with_journal roots text tree) ran = f.done (with_journal roots text tree) (mid_told tree told) in
@@ -145,7 +145,7 @@ module _ (roots : Roots) (intent : Intent) (text : List ℕ) (apart : AreApart r
       }
 
       -- it stopped behind its journal
-      pub commits_cut : (error : WorldError) (stop : Stop) → stop ≡ stop_for error → Finishes roots intent.changes mid new (Err error) → Commits roots made old new (Err stop)
+      pub commits_cut : (error : WorldError) (stop : Stop) → stop ≡ stop_for error → EndsTransaction roots intent.changes mid new (Err error) → Commits roots made old new (Err stop)
       commits_cut error stop is f = subst (λ s. Commits roots made old new (Err s)) (sym is) (record {
         done = λ tree told. tt;
         unrefused = stop_unrefused error;

@@ -31,7 +31,7 @@ use Rattle.std.proofs.lemmas.Bool.{or_left}
 use Rattle.kb_machine.specs.Aside.{WorksAside}
 use Rattle.kb_intent.specs.Doing.{made_dir_at}
 use Rattle.kb_intent.specs.Staging.{ChangesBut, put_inside}
-use Rattle.kb_intent.specs.Txn.{HoldsBelow, AreStagedFor, IsBegun, IsCleared, Begins, Stages, with_staged, none_staged, none_counted, count_below, with_count, left_places}
+use Rattle.kb_intent.specs.Txn.{HoldsBelow, AreStagedFor, IsNewTransaction, IsCleared, BeginsTransaction, Stages, with_staged, none_staged, none_counted, count_below, with_count, left_places}
 use Rattle.kb_intent.specs.declared.txn.Txn.{Txn}
 use Rattle.kb_intent.proofs.ButLaws.{same_wider, same_with, same_made, under_parent, aside_but, stays_done, stays_stopped, stays_wanting}
 use Rattle.kb_intent.proofs.DecimalLaws.{decimal_alone}
@@ -39,7 +39,7 @@ use Rattle.kb_intent.proofs.PlaceLaws.{left_aside, staging_left, staging_aside, 
 
 -- ---- it is begun
 
-pub begins_wanting : (job : Job) (state : State) → Begins job state state (Err stops.NoMemory)
+pub begins_wanting : (job : Job) (state : State) → BeginsTransaction job state state (Err stops.NoMemory)
 begins_wanting job state = record { begun = tt; cleared = λ tree told. tt; aside = stays_wanting job.host.roots state }
 
 none_below : (root : RootName) → staged_below none_staged root ≡ []
@@ -79,7 +79,7 @@ module _ (txn : Txn) (apart : AreApart txn.roots) (empty : txn.staged ≡ none_c
     same = λ q none. all_wiped-at (left_places txn.roots) tree q ∙ ap (λ b. cond b None (node_at tree q)) none;
   }
 
-module _ (job : Job) (txn : Txn) (begun : IsBegun job txn) (apart : AreApart job.host.roots) (places : List Path) (are : places ≡ left_places txn.roots) (old new : State) where
+module _ (job : Job) (txn : Txn) (begun : IsNewTransaction job txn) (apart : AreApart job.host.roots) (places : List Path) (are : places ≡ left_places txn.roots) (old new : State) where
   own_apart : AreApart txn.roots
   own_apart = subst AreApart (sym begun.roots) apart
 
@@ -91,7 +91,7 @@ module _ (job : Job) (txn : Txn) (begun : IsBegun job txn) (apart : AreApart job
   works result c = subst (λ roots. WorksAside roots old new) begun.roots
       (aside_but txn.roots (λ q. list_any (is_under q) (left_places txn.roots)) (all_wiped (left_places txn.roots)) old new result (left_aside txn.roots own_apart) (of_left result c))
 
-  pub begins_done : (u : Unit {0}) → ChangesBut (λ q. list_any (is_under q) places) (all_wiped places) {T = Unit {0}} old new (Ok u) → Begins job old new (Ok txn)
+  pub begins_done : (u : Unit {0}) → ChangesBut (λ q. list_any (is_under q) places) (all_wiped places) {T = Unit {0}} old new (Ok u) → BeginsTransaction job old new (Ok txn)
   begins_done u c = record {
     begun = begun;
     cleared = λ tree told. (
@@ -102,7 +102,7 @@ module _ (job : Job) (txn : Txn) (begun : IsBegun job txn) (apart : AreApart job
     aside = stays_done job.host.roots old new u txn (works (Ok u) c) c.ran_none c.cause;
   }
 
-  pub begins_stopped : (error : WorldError) (stop : Stop) → stop ≡ stop_for error → ChangesBut (λ q. list_any (is_under q) places) (all_wiped places) {T = Unit {0}} old new (Err error) → Begins job old new (Err stop)
+  pub begins_stopped : (error : WorldError) (stop : Stop) → stop ≡ stop_for error → ChangesBut (λ q. list_any (is_under q) places) (all_wiped places) {T = Unit {0}} old new (Err error) → BeginsTransaction job old new (Err stop)
   begins_stopped error stop is c = record { begun = tt; cleared = λ tree told. tt; aside = stays_stopped job.host.roots old new error stop is (works {T = Unit {0}} (Err error) c) c.ran_none c.cause }
 
 -- ---- a node is staged

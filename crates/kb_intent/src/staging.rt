@@ -6,7 +6,7 @@ ghost use Rattle.kb_world.specs.Patch.{all_wiped};
 ghost use Rattle.kb_world.specs.Path as paths;
 ghost use Rattle.kb_world.specs.Tree.{with_node, CanMake};
 ghost use Rattle.kb_intent.specs.Doing.{StepsTo, made_dir_at};
-ghost use Rattle.kb_intent.specs.Staging.{ChangesBut, CanPutInside, node_of, put_inside};
+ghost use Rattle.kb_intent.specs.Staging.{ChangesBut, CanPutInside, staged_node, put_inside};
 ghost use Rattle.kb_intent.specs.Txn as rule;
 
 use crate::doing::make_directory;
@@ -46,7 +46,7 @@ fn put_content<W: World>(
 ) -> Result<(), WorldError>
     requires { ForSome (W.state world.old).tree (λ tree. CanMake tree path.now) }
     ensures { ChangesBut (λ q. paths.is_under q path.now)
-        (with_node path.now (node_of content.now)) (W.state world.old) (W.state world.new) result }
+        (with_node path.now (staged_node content.now)) (W.state world.old) (W.state world.new) result }
 {
     match content {
         Content::File { bytes, exec } => world.put(alloc, path, bytes, *exec),
@@ -64,7 +64,7 @@ pub(crate) fn put_staged_content<W: World>(
 ) -> Result<(), WorldError>
     requires { ForSome (W.state world.old).tree (λ tree. CanPutInside tree path.now) }
     ensures { ChangesBut (λ q. paths.is_under q (paths.parent path.now))
-        (put_inside path.now (node_of content.now)) (W.state world.old) (W.state world.new) result }
+        (put_inside path.now (staged_node content.now)) (W.state world.old) (W.state world.new) result }
 {
     match make_parent(alloc, world, path) {
         Ok(()) => put_content(alloc, world, path, content),

@@ -2,7 +2,7 @@
 use Rattle.std.proofs.Common.{sym, ◌∙◌, subst, Ok, Err}
 use Rattle.kb_changes.specs.Text.{IsJournal}
 use Rattle.kb_machine.specs.Commits.{transacted}
-use Rattle.kb_intent.specs.Finish.{Finishes}
+use Rattle.kb_intent.specs.Finish.{EndsTransaction}
 use Rattle.kb_intent.proofs.CommitLaws.{commits_wanting, commits_stopped, commits_done, commits_cut, journal_there}
 use Rattle.kb_intent.proofs.committing.commit.Goals as goal
 
@@ -37,7 +37,7 @@ returns-in-Ok-finish g c =
     let new = g.W.World.state c.finish.new.world in
     let journal : IsJournal txn.roots text txn.intent = record { texts = c.in-Ok.ensures.texts; valid = c.requires.valid; spelled = sym (c.as_slice.ensures ∙ c.in-Ok.ensures.text) } in
     commits_done txn.roots txn.intent text c.requires.apart c.requires.valid journal (g.W.World.state c.args.world.now) mid (g.met.W.World.formed c.args.world.now) c.requires.dkms c.requires.bare
-    c.in-Ok-put_journal.ensures new c.in-Ok-finish.ran (subst (λ cs. Finishes txn.roots cs mid new (Ok c.in-Ok-finish.ran)) c.as_slice-2.ensures c.in-Ok-finish.ensures)
+    c.in-Ok-put_journal.ensures new c.in-Ok-finish.ran (subst (λ cs. EndsTransaction txn.roots cs mid new (Ok c.in-Ok-finish.ran)) c.as_slice-2.ensures c.in-Ok-finish.ensures)
 
 pub returns : goal.returns
 returns g c =
@@ -47,4 +47,4 @@ returns g c =
     let new = g.W.World.state c.finish.new.world in
     let journal : IsJournal txn.roots text txn.intent = record { texts = c.in-Ok.ensures.texts; valid = c.requires.valid; spelled = sym (c.as_slice.ensures ∙ c.in-Ok.ensures.text) } in
     commits_cut txn.roots txn.intent text c.requires.apart c.requires.valid journal (g.W.World.state c.args.world.now) mid (g.met.W.World.formed c.args.world.now) c.requires.dkms c.requires.bare
-    c.in-Ok-put_journal.ensures new c.in-Err-finish.error c.from-in-Err-finish.result c.from-in-Err-finish.ensures (subst (λ cs. Finishes txn.roots cs mid new (Err c.in-Err-finish.error)) c.as_slice-2.ensures c.in-Err-finish.ensures)
+    c.in-Ok-put_journal.ensures new c.in-Err-finish.error c.from-in-Err-finish.result c.from-in-Err-finish.ensures (subst (λ cs. EndsTransaction txn.roots cs mid new (Err c.in-Err-finish.error)) c.as_slice-2.ensures c.in-Err-finish.ensures)

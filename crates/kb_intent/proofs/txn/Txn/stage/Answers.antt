@@ -1,13 +1,13 @@
 -- The node comes under the next number.
 use Rattle.std.proofs.Common.{sym, ap, ◌∙◌, subst, Ok}
 use Rattle.kb_changes.specs.Change.{staged_path}
-use Rattle.kb_intent.specs.Staging.{node_of}
+use Rattle.kb_intent.specs.Staging.{staged_node}
 use Rattle.kb_intent.specs.Txn.{Stages}
 use Rattle.kb_intent.proofs.TxnLaws.{can_stage, stages_wanting, stages_done, stages_stopped}
 use Rattle.kb_intent.proofs.txn.Txn.stage.Goals as goal
 
 pub returns-in-Err : goal.returns-in-Err
-returns-in-Err g c = stages_wanting c.args.root (node_of c.args.content.now) c.args.self.now (g.W.World.state c.args.world.now)
+returns-in-Err g c = stages_wanting c.args.root (staged_node c.args.content.now) c.args.self.now (g.W.World.state c.args.world.now)
 
 pub put_staged_content-requires : goal.put_staged_content-requires
 put_staged_content-requires g c tree told =
@@ -16,12 +16,12 @@ put_staged_content-requires g c tree told =
 
 pub returns-in-Err-put_staged_content : goal.returns-in-Err-put_staged_content
 returns-in-Err-put_staged_content g c =
-    stages_stopped c.args.self.now c.args.root (node_of c.args.content.now) c.requires.apart c.in-Ok.path (c.in-Ok.ensures ∙ ap (staged_path c.args.self.now.roots c.args.root) c.below-number.ensures)
+    stages_stopped c.args.self.now c.args.root (staged_node c.args.content.now) c.requires.apart c.in-Ok.path (c.in-Ok.ensures ∙ ap (staged_path c.args.self.now.roots c.args.root) c.below-number.ensures)
     (g.W.World.state c.args.world.now) (g.W.World.state c.put_staged_content.new.world) c.requires.there c.in-Err-put_staged_content.error c.into.result c.into.ensures c.in-Err-put_staged_content.ensures
 
 pub returns : goal.returns
 returns g c =
-    let node = node_of c.args.content.now in
+    let node = staged_node c.args.content.now in
     let before = c.args.self.now in
     let after = record before { staged = c.count.new.self } in
     let old = g.W.World.state c.args.world.now in
