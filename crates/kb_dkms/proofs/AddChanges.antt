@@ -1,5 +1,5 @@
 -- The changes of `dkms add`: the two directories and the link.
-use Rattle.std.proofs.Common.{Less, ◌≡◌, ◌⊎◌, ℕ, Bool, true, false, cond, ◌||◌, List, [], ◌∷◌, ◌++◌, map, reverse, refl, sym, ap, ◌∙◌, subst, inl, inr, append_assoc}
+use Rattle.std.proofs.Common.{Less, ◌≡◌, true, false, cond, ◌||◌, List, [], ◌∷◌, ◌++◌, map, refl, sym, ap, ◌∙◌, subst, inl, inr, append_assoc}
 use Rattle.std.specs.Prelude.{codes}
 use Rattle.std.proofs.lemmas.Bool.{cases_Bool, true≢false}
 use Rattle.kb_world.specs.Path.{Path, path_cmp, is_under}
@@ -31,11 +31,11 @@ same_first : (a b : Path) (more_a more_b : List Path) → IsRising (a ∷ more_a
 same_first a b more_a more_b rise_a rise_b there back = elim (cases_Bool (same_path a b)) [
   | inl is ↦ same_path-true a b is
   | inr isnt ↦ elim (cases_Bool (same_path b a)) [
-      | inl is ↦ sym (same_path-true b a is)
-      | inr isnt_b ↦ absurd (less-once b a
-          (each-listed (λ later. path_cmp b later ≡ Less) more_b rise_b.0 a (sym (ap (λ x. x || is_listed a more_b) isnt) ∙ there))
-          (each-listed (λ later. path_cmp a later ≡ Less) more_a rise_a.0 b (sym (ap (λ x. x || is_listed b more_a) isnt_b) ∙ back)))
-    ]
+    | inl is ↦ sym (same_path-true b a is)
+    | inr isnt_b ↦ absurd (less-once b a
+        (each-listed (λ later. path_cmp b later ≡ Less) more_b rise_b.0 a (sym (ap (λ x. x || is_listed a more_b) isnt) ∙ there))
+        (each-listed (λ later. path_cmp a later ≡ Less) more_a rise_a.0 b (sym (ap (λ x. x || is_listed b more_a) isnt_b) ∙ back)))
+  ]
 ]
 
 pub rising_same : (a b : List Path) → IsRising a → IsRising b → ((q : Path) → is_listed q a ≡ is_listed q b) → a ≡ b

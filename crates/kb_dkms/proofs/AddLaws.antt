@@ -1,36 +1,35 @@
 -- What the refusals and the step of `dkms add` read and change is public.
-use Rattle.std.proofs.Common.{◌≡◌, ◌≢◌, ℕ, Bool, true, false, cond, ◌&&◌, List, [], ◌∷◌, ◌++◌, Option, Some, None, is_some, refl, sym, ap, ◌∙◌, subst, append_assoc}
+use Rattle.std.proofs.Common.{◌≡◌, ◌≢◌, ℕ, true, false, cond, List, [], ◌∷◌, ◌++◌, Option, Some, None, is_some, refl, sym, ap, ◌∙◌, subst, append_assoc}
 use Rattle.std.specs.Prelude.{codes}
 use Rattle.std.specs.Option.{option_or, option_map}
 use Rattle.std.specs.Cmp.{first_so}
 use Rattle.kb_world.specs.Names.{is_word, is_version, begins_alphanumeric}
 use Rattle.kb_world.specs.Path.{Path, is_under}
-use Rattle.kb_world.specs.Tree.{Tree, node_at, with_node, is_dir, link_text}
+use Rattle.kb_world.specs.Tree.{Tree, node_at, link_text}
 use Rattle.kb_world.specs.Roots.{AreApart}
-use Rattle.kb_world.specs.Public.{public_tree, foreign_tree}
+use Rattle.kb_world.specs.Public.{public_tree}
 use Rattle.kb_world.specs.Damage.{hurt}
 use Rattle.kb_world.specs.Store.{is_key, says, module_path, version_path, link_path, source_path, source_text}
-use Rattle.kb_world.specs.Steps.{with_directory, blocking, add_step}
+use Rattle.kb_world.specs.Steps.{blocking, add_step}
 use Rattle.kb_world.specs.declared.roots.Roots.{Roots}
 use Rattle.kb_world.specs.declared.job.Key.{Key}
 use Rattle.kb_world.specs.declared.refusal.Refusal.{Refusal}
 use Rattle.kb_world.specs.declared.refusal.Refusal.TheVariants as refusal
 use Rattle.kb_world.specs.declared.store_path.StorePath.TheVariants.{SourceLink}
 use Rattle.kb_world.specs.declared.tree.Node.{Node}
-use Rattle.kb_world.specs.declared.tree.Node.TheVariants as node
-use Rattle.kb_world.proofs.AddLaws.{add_step-is, elsewhere as stays}
+use Rattle.kb_world.proofs.AddLaws.{elsewhere as stays}
 use Rattle.kb_world.proofs.DamageLaws.{sound_from}
 use Rattle.kb_world.proofs.NameLaws.{known, begins-append}
 use Rattle.kb_world.proofs.PathLaws.{elsewhere, under-append, apart-back}
 use Rattle.kb_world.proofs.PublicPlaces.{public_place}
 use Rattle.kb_world.proofs.StorePathLaws.{link_no_scratch}
-use Rattle.kb_world.proofs.PublicLaws.{IsAlwaysPublic, written_apart, in_dkms, in_src, shown, public_tree-with_node, foreign_tree-with_node}
+use Rattle.kb_world.proofs.PublicLaws.{IsAlwaysPublic, written_apart, in_dkms, in_src, shown}
 use Rattle.kb_world.proofs.StepLaws.{blocking-same}
 use Rattle.kb_conf.specs.Load.{conf_below, loaded_conf}
 use Rattle.kb_conf.specs.declared.given.Given.{Given}
 use Rattle.kb_dkms.specs.Add.{already_added, blocked}
 use Rattle.kb_dkms.specs.declared.places.Places.{Places}
-use Rattle.kb_dkms.specs.Places.{package_places, standing, place_blocked, place_step}
+use Rattle.kb_dkms.specs.Places.{package_places, standing, place_blocked}
 
 -- each place of a package is public, whatever stands there
 pub record ArePublic (roots : Roots) (places : Places) : Type 0 where
@@ -104,44 +103,6 @@ blocked_shown roots apart key good tree =
     ∙ ap (λ path. option_map refusal.Damaged (option_or path (blocking (version_path roots key) tree))) (blocking-same (module_path roots key) tree store (sym (shown roots tree _ open_to.package_directory)))
     ∙ ap (λ path. option_map refusal.Damaged (option_or (blocking (module_path roots key) store) path)) (blocking-same (version_path roots key) tree store (sym (shown roots tree _ open_to.version)))
 
--- ---- the step
-
-public-with_directory : (roots : Roots) (path : Path) (tree : Tree) → IsAlwaysPublic roots path → public_tree roots (with_directory path tree) ≡ with_directory path (public_tree roots tree)
-public-with_directory roots path tree open_to = by_case (is_some (node_at tree path)) refl
-  where
-    by_case : (some : Bool) → is_some (node_at tree path) ≡ some → public_tree roots (with_directory path tree) ≡ with_directory path (public_tree roots tree)
-    by_case true s =
-        ap (λ b. public_tree roots (cond b tree (with_node path node.Dir tree))) s
-        ∙ sym (ap (λ b. cond b (public_tree roots tree) (with_node path node.Dir (public_tree roots tree))) (ap is_some (shown roots tree path open_to) ∙ s))
-    by_case false s =
-        ap (λ b. public_tree roots (cond b tree (with_node path node.Dir tree))) s ∙ public_tree-with_node roots tree path node.Dir open_to
-        ∙ sym (ap (λ b. cond b (public_tree roots tree) (with_node path node.Dir (public_tree roots tree))) (ap is_some (shown roots tree path open_to) ∙ s))
-
-foreign-with_directory : (roots : Roots) (path : Path) (tree : Tree) → IsAlwaysPublic roots path → foreign_tree roots (with_directory path tree) ≡ foreign_tree roots tree
-foreign-with_directory roots path tree open_to = by_case (is_some (node_at tree path)) refl
-  where
-    by_case : (some : Bool) → is_some (node_at tree path) ≡ some → foreign_tree roots (with_directory path tree) ≡ foreign_tree roots tree
-    by_case true s = ap (λ b. foreign_tree roots (cond b tree (with_node path node.Dir tree))) s
-    by_case false s = ap (λ b. foreign_tree roots (cond b tree (with_node path node.Dir tree))) s ∙ foreign_tree-with_node roots tree path node.Dir open_to
-
-pub step_shown : (roots : Roots) → AreApart roots → (key : Key) → is_key key ≡ true → (tree : Tree)
-    → public_tree roots (place_step (package_places roots key) tree) ≡ add_step roots key (public_tree roots tree)
-step_shown roots apart key good tree =
-    let open_to = are_public roots apart key good in
-    let places = package_places roots key in
-    public_tree-with_node roots _ places.link _ open_to.link
-    ∙ ap (with_node places.link (node.Link places.text)) (public-with_directory roots places.version _ open_to.version
-    ∙ ap (with_directory places.version) (public-with_directory roots places.module tree open_to.package_directory))
-    ∙ sym (add_step-is roots key (public_tree roots tree))
-
-pub step_keeps_foreign : (roots : Roots) → AreApart roots → (key : Key) → is_key key ≡ true → (tree : Tree)
-    → foreign_tree roots (place_step (package_places roots key) tree) ≡ foreign_tree roots tree
-step_keeps_foreign roots apart key good tree =
-    let open_to = are_public roots apart key good in
-    let places = package_places roots key in
-    foreign_tree-with_node roots _ places.link _ open_to.link ∙ foreign-with_directory roots places.version _ open_to.version
-    ∙ foreign-with_directory roots places.module tree open_to.package_directory
-
 -- ---- what the step leaves
 
 -- the step leaves the directory of the source as it was
@@ -155,23 +116,3 @@ add_keeps_source roots apart key store =
     outside path under same =
         let beside = elsewhere (source_path roots key) roots.src roots.dkms (apart-back roots.dkms roots.src (written_apart roots apart).dkms_src) (under-append roots.src _) in
         let impossible : true ≡ false = sym under ∙ ap (λ p. is_under p roots.dkms) (sym same) ∙ beside in cc
-
--- the directory of the source stands as it did
-pub source_stays : (roots : Roots) → AreApart roots → (key : Key) → (tree : Tree) → node_at (place_step (package_places roots key) tree) (source_path roots key) ≡ node_at tree (source_path roots key)
-source_stays roots apart key tree =
-    ap (λ t. node_at t (source_path roots key)) (sym (add_step-is roots key tree))
-    ∙ stays roots key tree (source_path roots key) (outside _ (under-append roots.dkms (key.module ∷ [])))
-    (outside _ (under-append roots.dkms (key.module ∷ key.version ∷ [])))
-    (outside _ (under-append roots.dkms (key.module ∷ key.version ∷ codes "source" ∷ [])))
-  where
-    outside : (path : Path) → is_under path roots.dkms ≡ true → source_path roots key ≢ path
-    outside path under same =
-        let beside = elsewhere (source_path roots key) roots.src roots.dkms (apart-back roots.dkms roots.src (written_apart roots apart).dkms_src) (under-append roots.src _) in
-        let impossible : true ≡ false = sym under ∙ ap (λ p. is_under p roots.dkms) (sym same) ∙ beside in cc
-
-pub dir_stays : (roots : Roots) → AreApart roots → (key : Key) → (places : Places) → places ≡ package_places roots key → (dir : Path) → dir ≡ places.source → (tree : Tree)
-    → is_dir (node_at tree dir) ≡ true → is_dir (node_at (place_step places tree) dir) ≡ true
-dir_stays roots apart key places are dir at tree stands =
-    let is : dir ≡ source_path roots key = at ∙ ap (λ (p : Places). p.source) are in
-    ap (λ (p : Places). is_dir (node_at (place_step p tree) dir)) are ∙ ap (λ q. is_dir (node_at (place_step (package_places roots key) tree) q)) is ∙ ap is_dir (source_stays roots apart key tree)
-    ∙ ap (λ q. is_dir (node_at tree q)) (sym is) ∙ stands

@@ -1,23 +1,21 @@
 -- `dkms add` is one transaction: its step, its line, and the script behind it.
-use Rattle.std.proofs.Common.{◌≡◌, ℕ, Bool, true, false, List, [], ◌∷◌, ◌++◌, map, flat_map, Option, Some, None, refl, sym, ap, ◌∙◌, subst}
-use Rattle.std.specs.Prelude.{codes, is_some}
-use Rattle.kb_world.specs.Path.{Path}
+use Rattle.std.proofs.Common.{◌≡◌, ℕ, true, List, [], ◌∷◌, ◌++◌, map, Option, Some, None, refl, sym, ap, ◌∙◌, subst}
+use Rattle.std.specs.Prelude.{codes}
 use Rattle.kb_world.specs.Tree.{Tree, node_at, is_dir, IsFormed}
 use Rattle.kb_world.specs.Script.{Script}
 use Rattle.kb_world.specs.Roots.{AreApart}
 use Rattle.kb_world.specs.Public.{public_tree, foreign_tree}
-use Rattle.kb_world.specs.Outcome.{Action, transaction, warn, asks, ◌then◌}
+use Rattle.kb_world.specs.Outcome.{transaction, warn, asks, ◌then◌}
 use Rattle.kb_world.specs.Store.{is_key, link_path, source_path}
 use Rattle.kb_world.specs.Steps.{add_blocked, add_patch, add_step}
 use Rattle.kb_world.specs.declared.child.Reply.{Reply}
-use Rattle.kb_world.specs.declared.child.Request.{Request}
 use Rattle.kb_world.specs.declared.roots.Roots.{Roots}
 use Rattle.kb_world.specs.declared.job.Key.{Key}
 use Rattle.kb_world.specs.declared.job.Host.{Host}
 use Rattle.kb_world.proofs.PublicLaws.{shown}
 use Rattle.kb_changes.specs.Change.{done}
 use Rattle.kb_changes.specs.Changes.{changes_of, nodes_of, HasStaged}
-use Rattle.kb_changes.specs.Fit.{IsFit, IsFitRequest, idle}
+use Rattle.kb_changes.specs.Fit.{IsFit, idle}
 use Rattle.kb_changes.specs.Groups.{runs_in}
 use Rattle.kb_changes.specs.Valid.{is_valid}
 use Rattle.kb_changes.specs.declared.change.Change.{Change}
@@ -29,13 +27,12 @@ use Rattle.kb_machine.specs.Across.{SaysSo}
 use Rattle.kb_machine.specs.Commits.{transacted}
 use Rattle.kb_machine.proofs.TransactLaws.{says_alone, says_asked}
 use Rattle.kb_conf.specs.declared.conf.Conf.{Conf}
-use Rattle.kb_conf.specs.declared.given.Given.{Given}
 use Rattle.kb_dkms.specs.Add.{add_and_run, added_line}
 use Rattle.kb_dkms.specs.Commit.{script_asked, runs_of, changes_of_add, endings}
 use Rattle.kb_dkms.specs.Places.{package_places}
 use Rattle.kb_dkms.specs.Scripts.{host_given, ended_line, script_request, run_script}
-use Rattle.kb_dkms.proofs.AddChanges.{add_changes, add_changes-are}
-use Rattle.kb_dkms.proofs.AddLaws.{ArePublic, are_public, add_keeps_source}
+use Rattle.kb_dkms.proofs.AddChanges.{add_changes-are}
+use Rattle.kb_dkms.proofs.AddLaws.{are_public, add_keeps_source}
 
 -- what stands where the transaction is committed: the link's directories are free, its node is staged, and its source is
 -- there

@@ -12,11 +12,11 @@ use Rattle.kb_world.specs.Script.{Script}
 use Rattle.kb_world.specs.Roots.{AreApart}
 use Rattle.kb_world.specs.State.{State}
 use Rattle.kb_world.specs.Damage.{hurt}
-use Rattle.kb_world.specs.Store.{is_key, link_path, source_path}
-use Rattle.kb_world.specs.Steps.{add_step, blocking}
-use Rattle.kb_world.specs.Public.{public_tree, foreign_tree}
-use Rattle.kb_world.specs.Outcome.{Action, unless, warn, reads, transaction, ◌then◌}
-use Rattle.kb_world.specs.Does.{Does, Decides, Agrees, Gives, Transforms}
+use Rattle.kb_world.specs.Store.{is_key, module_path, version_path, link_path, source_path}
+use Rattle.kb_world.specs.Steps.{blocking}
+use Rattle.kb_world.specs.Public.{intent_path, public_tree}
+use Rattle.kb_world.specs.Outcome.{unless, warn, reads, ◌then◌}
+use Rattle.kb_world.specs.Does.{Decides, Agrees, Gives}
 use Rattle.kb_world.specs.declared.roots.Roots.{Roots}
 use Rattle.kb_world.specs.declared.job.Key.{Key}
 use Rattle.kb_world.specs.declared.job.Host.{Host}
@@ -25,22 +25,22 @@ use Rattle.kb_world.specs.declared.refusal.Refusal.{Refusal}
 use Rattle.kb_world.specs.declared.refusal.Refusal.TheVariants as refusal
 use Rattle.kb_world.specs.declared.tree.Node.{Node}
 use Rattle.kb_world.specs.declared.stop.Stop.{Stop}
-use Rattle.kb_world.specs.declared.stop.Stop.TheVariants.{Refused, Fault, NoMemory}
-use Rattle.kb_world.proofs.DoesLaws.{does_refused, does_passed, does_transaction}
 use Rattle.kb_world.proofs.NameLaws.{word-is_name}
-use Rattle.kb_world.proofs.StepLaws.{parent-child}
-use Rattle.kb_world.proofs.ThenLaws.{does_then, does_unread, does_read, does_warn}
+use Rattle.kb_machine.specs.Across.{DoesAcrossCrashes}
+use Rattle.kb_machine.proofs.LookLaws.{refused, passed, unread, read_on, warned}
+use Rattle.kb_machine.proofs.ThenLaws.{does_then}
 use Rattle.kb_conf.specs.declared.conf.Conf.{Conf}
 use Rattle.kb_conf.specs.declared.given.Given.{Given}
 use Rattle.kb_conf.specs.Given.{given_for}
 use Rattle.kb_conf.specs.Load.{loaded_conf}
 use Rattle.kb_world.specs.Read.{unless_due}
 use Rattle.kb_dkms.specs.declared.places.Places.{Places}
-use Rattle.kb_dkms.specs.Add.{add, add_with, add_and_run, already_added, source_conf, unused_lines, blocked, added_line}
+use Rattle.kb_dkms.specs.Add.{add, add_with, add_and_run, already_added, source_conf, unused_lines, blocked}
 use Rattle.kb_dkms.specs.Host.{is_kernel_if_any, host_keeps_rules}
-use Rattle.kb_dkms.specs.Places.{package_places, standing, blocked_by, place_blocked, place_step, IsNested, IsFree, CanMakeLink}
-use Rattle.kb_dkms.specs.Scripts.{host_given, warning_line, run_script}
-use Rattle.kb_dkms.proofs.AddLaws.{standing_shown, standing_is_added, conf_shown, blocked_shown, step_shown, step_keeps_foreign}
+use Rattle.kb_dkms.specs.Commit.{IsUnadded, CanAdd}
+use Rattle.kb_dkms.specs.Places.{package_places, standing, blocked_by, place_blocked}
+use Rattle.kb_dkms.specs.Scripts.{host_given, warning_line}
+use Rattle.kb_dkms.proofs.AddLaws.{standing_shown, standing_is_added, conf_shown, blocked_shown}
 
 -- the kernel of a host that keeps its rules can name an entry of a directory
 pub kernel_named : (host : Host) → host_keeps_rules host ≡ true → (kernel : List ℕ) → host.kernel ≡ Some kernel → is_name kernel ≡ true
@@ -51,15 +51,6 @@ kernel_named host good kernel is =
 
 -- ---- when the link can be made
 
--- the parts of a package stand in one another
-pub nested : (roots : Roots) (key : Key) → IsNested (package_places roots key)
-nested roots key = record {
-  version = key.version;
-  link = codes "source";
-  version_is = sym (append_assoc roots.dkms (key.module ∷ []) (key.version ∷ []));
-  link_is = sym (append_assoc roots.dkms (key.module ∷ key.version ∷ []) (codes "source" ∷ []));
-}
-
 nothing_stands : (key : Key) (link : Path) (tree : Tree) → standing key link tree ≡ None → node_at tree link ≡ None
 nothing_stands key link tree e = by_case (node_at tree link) refl
   where
@@ -67,11 +58,10 @@ nothing_stands key link tree e = by_case (node_at tree link) refl
     by_case None is = is
     by_case (Some x) is = let impossible : Some (refusal.AlreadyAdded key) ≡ None = sym (ap (λ (at : Option Node). cond (is_some at) (Some (refusal.AlreadyAdded key)) None) is) ∙ e in cc
 
-pub is_free : (roots : Roots) (key : Key) (tree : Tree) → is_dir (node_at tree roots.dkms) ≡ true → standing key (link_path roots key) tree ≡ None → IsFree (package_places roots key) tree
-is_free roots key tree root none = record {
-  in_root = ap (λ p. is_dir (node_at tree p)) (parent-child roots.dkms key.module) ∙ root;
-  link_free = nothing_stands key (link_path roots key) tree none;
-}
+-- the package isn't added, and its source is there
+pub is_unadded : (roots : Roots) (key : Key) (tree : Tree) → is_dir (node_at tree roots.dkms) ≡ true → node_at tree (intent_path roots) ≡ None → standing key (link_path roots key) tree ≡ None
+    → is_dir (node_at tree (source_path roots key)) ≡ true → IsUnadded roots key tree
+is_unadded roots key tree root bare none source = record { root = root; bare = bare; free = nothing_stands key (link_path roots key) tree none; source = source }
 
 nothing_first : {A : Type 0} (a b : Option A) → option_or a b ≡ None → a ≡ None
 nothing_first None b e = refl
@@ -88,11 +78,12 @@ unblocked path tree e = by_case (blocking path tree) refl
     by_case None is = is
     by_case (Some x) is = let impossible : Some (refusal.Damaged x) ≡ None = sym (ap (option_map refusal.Damaged) is) ∙ e in cc
 
-pub can_place : (places : Places) (tree : Tree) → IsFree places tree → place_blocked places tree ≡ None → CanMakeLink places tree
-can_place places tree free none = record {
-  free = free;
-  module_free = unblocked places.module tree (nothing_first _ (blocked_by places.version tree) none);
-  version_free = unblocked places.version tree (nothing_second (blocked_by places.module tree) _ none);
+pub can_add : (roots : Roots) (key : Key) (tree : Tree) → IsUnadded roots key tree → place_blocked (package_places roots key) tree ≡ None → CanAdd roots key tree
+can_add roots key tree unadded none = record {
+  unadded = unadded;
+  unblocked =
+      ap (λ first. option_or first (blocking (version_path roots key) tree)) (unblocked (module_path roots key) tree (nothing_first _ (blocked_by (version_path roots key) tree) none))
+      ∙ unblocked (version_path roots key) tree (nothing_second (blocked_by (module_path roots key) tree) _ none);
 }
 
 -- where a conf was loaded its directory stands
@@ -103,33 +94,6 @@ loaded_dir dir key given tree conf e = by_test (is_dir (node_at tree dir)) _ _ e
     by_test : (b : Bool) (second : Option Refusal) (said : Result Conf Refusal) → unless_due (option_or (cond b None (Some (refusal.NoSource dir))) second) said ≡ Ok conf → b ≡ true
     by_test true second said e = refl
     by_test false second said e = let impossible : ◌≡◌ {A = Result Conf Refusal} (Err (refusal.NoSource dir)) (Ok conf) = e in cc
-
--- ---- the transaction and the script
-
--- a change that failed, whatever was to be done
-pub does_failed : (roots : Roots) (action : Action) (change : Tree → Tree) (old new : State) (before after : Report) (stop : Stop)
-    → Transforms change {T = Unit {0}} old new (Err stop) → Does roots action {T = Unit {0}} old new before after (Err stop)
-does_failed roots action change old new before after (Refused refusal) t = absurd (t.unrefused refusal refl)
-does_failed roots action change old new before after Fault t = record { answers = λ tree told rooted. tt; lasts = t.ran_none.lasts; cause = t.cause }
-does_failed roots action change old new before after NoMemory t = record { answers = λ tree told rooted. tt; lasts = t.ran_none.lasts; cause = t.cause }
-
--- the link stands, and then the script is run
-pub added_and_ran : (host : Host) → AreApart host.roots → (key : Key) → is_key key ≡ true → (conf : Conf) (given : Given) → given ≡ host_given host → (places : Places) → places ≡ package_places host.roots key
-    → (asked : Option (List ℕ)) → asked ≡ conf.scripts.post_add → (old mid new : State) (before between after : Report) (result : Result (Unit {0}) Stop) → Transforms (place_step places) {T = Unit {0}} old mid (Ok tt)
-    → (line : List ℕ) → line ≡ added_line key → between.out ≡ before.out ++ line → between.err ≡ before.err
-    → Does host.roots (run_script host.roots mid.script given key (codes "POST_ADD") asked) mid new between after result
-    → Does host.roots (add_and_run host old.script key conf) old new before after result
-added_and_ran host apart key good conf given is places are asked for old mid new before between after result t line so out err d =
-    let roots = host.roots in
-    let which = codes "POST_ADD" in
-    let P : Script → Type 0 = λ s. Does roots (run_script roots s given key which asked) mid new between after result in
-    let Q : Given → Type 0 = λ g. Does roots (run_script roots old.script g key which asked) mid new between after result in
-    let R : Option (List ℕ) → Type 0 = λ a. Does roots (run_script roots old.script (host_given host) key which a) mid new between after result in
-    does_then roots (transaction (add_step roots key) (added_line key)) (run_script roots old.script (host_given host) key which conf.scripts.post_add) old mid new before between after result
-    (does_transaction roots (place_step places) (add_step roots key) (added_line key) old mid before between (Ok tt)
-    (λ tree. ap (λ (p : Places). public_tree roots (place_step p tree)) are ∙ step_shown roots apart key good tree)
-    (λ tree. ap (λ (p : Places). foreign_tree roots (place_step p tree)) are ∙ step_keeps_foreign roots apart key good tree) t (out ∙ ap (λ text. before.out ++ text) so) err)
-    (subst R for (subst Q is (subst P t.ran_none.lasts.script d)))
 
 -- ---- the warnings, and what is in the way
 
@@ -151,24 +115,24 @@ read_blocked roots apart key good places are tree = ap (λ (p : Places). place_b
 pub warned_blocked : (host : Host) → AreApart host.roots → (key : Key) → is_key key ≡ true → (script : Script) (conf : Conf) (places : Places) → places ≡ package_places host.roots key
     → (old mid : State) (before after : Report) (stop : Stop) → after.out ≡ before.out → (names : List (List ℕ)) → names ≡ conf.unused
     → after.err ≡ before.err ++ unused_lines names
-    → Decides (place_blocked places) {T = Unit {0}} old mid (Err stop) → Does host.roots (add_with host script key conf) {T = Unit {0}} old mid before after (Err stop)
+    → Decides (place_blocked places) {T = Unit {0}} old mid (Err stop) → DoesAcrossCrashes host.roots (add_with host script key conf) {T = Unit {0}} old mid before after (Err stop)
 warned_blocked host apart key good script conf places are old mid before after stop out names all err d =
     let roots = host.roots in
     does_then roots (warn (unused_lines conf.unused)) (unless (blocked roots key) then add_and_run host script key conf) old old mid before after after (Err stop)
-    (does_warn roots (unused_lines conf.unused) old before after out (err ∙ ap (λ n. before.err ++ unused_lines n) all))
-    (does_refused roots (place_blocked places) (blocked roots key) (add_and_run host script key conf) old mid after stop (read_blocked roots apart key good places are) d)
+    (warned roots (unused_lines conf.unused) old before after out (err ∙ ap (λ n. before.err ++ unused_lines n) all))
+    (refused roots (place_blocked places) (blocked roots key) (add_and_run host script key conf) old mid after stop (read_blocked roots apart key good places are) d)
 
 pub warned_added : (host : Host) → AreApart host.roots → (key : Key) → is_key key ≡ true → (conf : Conf) (places : Places) → places ≡ package_places host.roots key
     → (old mid new : State) (before between after : Report) (result : Result (Unit {0}) Stop) → between.out ≡ before.out → (names : List (List ℕ)) → names ≡ conf.unused
     → between.err ≡ before.err ++ unused_lines names
-    → Decides (place_blocked places) {T = Unit {0}} old mid (Ok tt) → Does host.roots (add_and_run host mid.script key conf) mid new between after result
-    → Does host.roots (add_with host old.script key conf) old new before after result
+    → Decides (place_blocked places) {T = Unit {0}} old mid (Ok tt) → DoesAcrossCrashes host.roots (add_and_run host mid.script key conf) mid new between after result
+    → DoesAcrossCrashes host.roots (add_with host old.script key conf) old new before after result
 warned_added host apart key good conf places are old mid new before between after result out names all err d e =
     let roots = host.roots in
-    let P : Script → Type 0 = λ s. Does roots (add_and_run host s key conf) mid new between after result in
+    let P : Script → Type 0 = λ s. DoesAcrossCrashes roots (add_and_run host s key conf) mid new between after result in
     does_then roots (warn (unused_lines conf.unused)) (unless (blocked roots key) then add_and_run host old.script key conf) old old new before between after result
-    (does_warn roots (unused_lines conf.unused) old before between out (err ∙ ap (λ n. before.err ++ unused_lines n) all))
-    (does_passed roots (place_blocked places) (blocked roots key) (add_and_run host old.script key conf) old mid new between after result (read_blocked roots apart key good places are) d
+    (warned roots (unused_lines conf.unused) old before between out (err ∙ ap (λ n. before.err ++ unused_lines n) all))
+    (passed roots (place_blocked places) (blocked roots key) (add_and_run host old.script key conf) old mid new between after result (read_blocked roots apart key good places are) d
     (subst P d.unchanged.ran_none.lasts.script e))
 
 -- ---- the whole action
@@ -198,10 +162,10 @@ for_host host kernel given same is = is ∙ ap (λ k. given_for host.roots k hos
 
 -- it is added already
 pub add_refused : (host : Host) → AreApart host.roots → (key : Key) → is_key key ≡ true → (script : Script) (link : Path) → link ≡ link_path host.roots key → (old mid : State) (report : Report) (stop : Stop)
-    → IsUnhurt host.roots old → Decides (standing key link) {T = Unit {0}} old mid (Err stop) → Does host.roots (add host script key) {T = Unit {0}} old mid report report (Err stop)
+    → IsUnhurt host.roots old → Decides (standing key link) {T = Unit {0}} old mid (Err stop) → DoesAcrossCrashes host.roots (add host script key) {T = Unit {0}} old mid report report (Err stop)
 add_refused host apart key good script link is old mid report stop sound d =
     let roots = host.roots in
-    does_refused roots (λ tree. already_added roots key (public_tree roots tree)) (already_added roots key) (reads (source_conf host key) (add_with host script key)) old mid report stop (λ tree. refl)
+    refused roots (λ tree. already_added roots key (public_tree roots tree)) (already_added roots key) (reads (source_conf host key) (add_with host script key)) old mid report stop (λ tree. refl)
     (decides_added roots apart key good link is old mid (Err stop) sound d)
 
 -- what is read of the source is what the public tree gives
@@ -213,24 +177,24 @@ read_conf host apart key good dir at given is tree =
 -- its conf is refused
 pub add_unread : (host : Host) → AreApart host.roots → (key : Key) → is_key key ≡ true → (script : Script) (link : Path) → link ≡ link_path host.roots key → (dir : Path) → dir ≡ source_path host.roots key
     → (given : Given) → given ≡ host_given host → (old mid new : State) (report : Report) (stop : Stop) → IsUnhurt host.roots old → Decides (standing key link) {T = Unit {0}} old mid (Ok tt)
-    → Gives {T = Conf} (loaded_conf dir (Some key) given) mid new (Err stop) → Does host.roots (add host script key) {T = Unit {0}} old new report report (Err stop)
+    → Gives {T = Conf} (loaded_conf dir (Some key) given) mid new (Err stop) → DoesAcrossCrashes host.roots (add host script key) {T = Unit {0}} old new report report (Err stop)
 add_unread host apart key good script link is dir at given for old mid new report stop sound d g =
     let roots = host.roots in
     let next = reads (source_conf host key) (add_with host script key) in
-    does_passed roots (λ tree. already_added roots key (public_tree roots tree)) (already_added roots key) next old mid new report report (Err stop) (λ tree. refl)
+    passed roots (λ tree. already_added roots key (public_tree roots tree)) (already_added roots key) next old mid new report report (Err stop) (λ tree. refl)
     (decides_added roots apart key good link is old mid (Ok tt) sound d)
-    (does_unread {A = Conf} roots (loaded_conf dir (Some key) given) (source_conf host key) (add_with host script key) mid new report stop (read_conf host apart key good dir at given for) g)
+    (unread {A = Conf} roots (loaded_conf dir (Some key) given) (source_conf host key) (add_with host script key) mid new report stop (read_conf host apart key good dir at given for) g)
 
 -- its conf is read, and it goes on with that
 pub add_read : (host : Host) → AreApart host.roots → (key : Key) → is_key key ≡ true → (link : Path) → link ≡ link_path host.roots key → (dir : Path) → dir ≡ source_path host.roots key
     → (given : Given) → given ≡ host_given host → (conf : Conf) (old mid late new : State) (before after : Report) (result : Result (Unit {0}) Stop) → IsUnhurt host.roots old
     → Decides (standing key link) {T = Unit {0}} old mid (Ok tt) → Gives {T = Conf} (loaded_conf dir (Some key) given) mid late (Ok conf)
-    → Does host.roots (add_with host late.script key conf) late new before after result → Does host.roots (add host old.script key) old new before after result
+    → DoesAcrossCrashes host.roots (add_with host late.script key conf) late new before after result → DoesAcrossCrashes host.roots (add host old.script key) old new before after result
 add_read host apart key good link is dir at given for conf old mid late new before after result sound d g e =
     let roots = host.roots in
     let next = reads (source_conf host key) (add_with host old.script key) in
-    let P : Script → Type 0 = λ s. Does roots (add_with host s key conf) late new before after result in
-    does_passed roots (λ tree. already_added roots key (public_tree roots tree)) (already_added roots key) next old mid new before after result (λ tree. refl)
+    let P : Script → Type 0 = λ s. DoesAcrossCrashes roots (add_with host s key conf) late new before after result in
+    passed roots (λ tree. already_added roots key (public_tree roots tree)) (already_added roots key) next old mid new before after result (λ tree. refl)
     (decides_added roots apart key good link is old mid (Ok tt) sound d)
-    (does_read {A = Conf} roots (loaded_conf dir (Some key) given) (source_conf host key) (add_with host old.script key) conf mid late new before after result
+    (read_on {A = Conf} roots (loaded_conf dir (Some key) given) (source_conf host key) (add_with host old.script key) conf mid late new before after result
     (read_conf host apart key good dir at given for) g (subst P (g.unchanged.ran_none.lasts.script ∙ d.unchanged.ran_none.lasts.script) e))

@@ -1,6 +1,8 @@
 mod AddChanges
 mod AddLaws
+mod AddRun
 mod CommitAdd
 mod DoesAdd
-mod PlaceLaws
+mod PrepareLaws
 mod ScriptLaws
+mod WantLaws

@@ -13,11 +13,7 @@ use kb_world::{Request, Stop, World};
 use std::alloc::{AllocError, Global};
 
 // Adds the changes that make the link, and the script behind them.
-fn add_changes(
-    txn: &mut Txn,
-    places: &Places,
-    request: Option<Request>,
-) -> Result<(), AllocError>
+fn add_changes(txn: &mut Txn, places: &Places, request: Option<Request>) -> Result<(), AllocError>
     ensures changes { OnOk result (txn.new.intent.changes ≡ txn.old.intent.changes ++ changes_of_add places.now request) }
     ensures roots { txn.new.roots ≡ txn.old.roots }
 {
@@ -34,7 +30,7 @@ fn add_changes(
     }
 }
 
-/// Begins a transaction of the job, stages the link of the package, and adds the changes that make it, with its script
+/// BeginsTransaction a transaction of the job, stages the link of the package, and adds the changes that make it, with its script
 /// behind them.
 pub(crate) fn prepare<W: World>(
     alloc: Global,

@@ -27,7 +27,7 @@ use Rattle.kb_machine.proofs.RestLaws.{spared_public, spared_journal, opens-none
 use Rattle.kb_walk.proofs.WipeCalls.{HasFormedTree, cause_handed}
 use Rattle.kb_intent.specs.Clearing.{SettlesAll, without_trees, TakesAllAway}
 use Rattle.kb_intent.specs.Doing.{DoesChanges}
-use Rattle.kb_intent.specs.Finish.{HasJournal, store_after, Finishes}
+use Rattle.kb_intent.specs.Finish.{HasJournal, store_after, EndsTransaction}
 use Rattle.kb_intent.specs.declared.changing.Ran.{Ran}
 use Rattle.kb_intent.proofs.ChangeLaws.{cause_of_ok}
 use Rattle.kb_intent.proofs.FinishLaws.{IsOnTheWay, way_begins, way_settles, way_takes, way_opens, way_stands}
@@ -143,7 +143,7 @@ module _ (roots : Roots) (changes : List Change) (old ran settling bare : State)
       end_stands NoMemory c = stands_same roots store bare new (c.no_memory refl) c.soft c.ran_none.lasts.script stands_before
 
     -- the journal's end stopped
-    pub end_stopped : (error : WorldError) → Changes (without (intent_path roots)) {T = Unit {0}} bare new (Err error) → Finishes roots changes old new (Err error)
+    pub end_stopped : (error : WorldError) → Changes (without (intent_path roots)) {T = Unit {0}} bare new (Err error) → EndsTransaction roots changes old new (Err error)
     end_stopped error c = record {
       done = λ tree told. tt;
       survives = λ tree told intent journal same spares. record {
@@ -157,7 +157,7 @@ module _ (roots : Roots) (changes : List Change) (old ran settling bare : State)
 
     -- it is gone
     pub end_done : HasFormedTree ran → ForSome old.tree (λ tree. (intent : Intent) × HasJournal roots intent tree × (intent.changes ≡ changes)) → Changes (without (intent_path roots)) {T = Unit {0}} bare new (Ok tt)
-        → Finishes roots changes old new (Ok made)
+        → EndsTransaction roots changes old new (Ok made)
     end_done formed_ran has c = record {
       done = λ tree told. record {
         committed = record {

@@ -27,7 +27,7 @@ use Rattle.kb_machine.proofs.AsideThenLaws.{all_append, left_by_members}
 use Rattle.kb_walk.proofs.WipeCalls.{HasFormedTree, cause_handed}
 use Rattle.kb_intent.specs.Clearing.{SettlesAll, LeftOfGone, TakesAllAway}
 use Rattle.kb_intent.specs.Doing.{DoesChanges}
-use Rattle.kb_intent.specs.Finish.{HasJournal, store_after, KeepsOpening, Finishes}
+use Rattle.kb_intent.specs.Finish.{HasJournal, store_after, KeepsOpening, EndsTransaction}
 use Rattle.kb_intent.specs.declared.changing.Ran.{Ran}
 use Rattle.kb_intent.proofs.ClearingLaws.{all_through, gone_none, gone_then}
 use Rattle.kb_intent.proofs.StandingLaws.{sparing_now, cut_alike, unstaged_alike, opens_alike, stands_alike}
@@ -106,7 +106,7 @@ module _ (roots : Roots) (changes : List Change) (old : State) (apart : AreApart
       → KeepsOpening roots (store_after roots old.script changes tree) old new result)
 
   -- it stopped within the changes
-  pub changes_stopped : (new : State) (error : WorldError) → HasFormedTree new → DoesChanges roots changes old new (Err error) → Finishes roots changes old new (Err error)
+  pub changes_stopped : (new : State) (error : WorldError) → HasFormedTree new → DoesChanges roots changes old new (Err error) → EndsTransaction roots changes old new (Err error)
   changes_stopped new error formed_new d = record {
     done = λ tree told. tt;
     survives = λ tree told intent journal same spares.
@@ -147,7 +147,7 @@ module _ (roots : Roots) (changes : List Change) (old : State) (apart : AreApart
         (λ image soft spares_now left. unstaged_alike roots old.script changes tree apart valid (formed tree told) now.0 image soft now.2 spares_now left)
 
   -- it stopped behind them
-  pub way_stopped : {T : Type 0} (new : State) (error : WorldError) → HasFormedTree new → IsOnTheWay roots changes {T = T} old new (Err error) → Finishes roots changes old new (Err error)
+  pub way_stopped : {T : Type 0} (new : State) (error : WorldError) → HasFormedTree new → IsOnTheWay roots changes {T = T} old new (Err error) → EndsTransaction roots changes old new (Err error)
   way_stopped new error formed_new w = record {
     done = λ tree told. tt;
     survives = λ tree told intent journal same spares. record {

@@ -33,8 +33,8 @@ use Rattle.kb_machine.specs.Opens.{IsReady, at_rest, recovers, own_areas}
 use Rattle.kb_machine.specs.Stands.{Stands}
 use Rattle.kb_machine.proofs.RestLaws.{spared_journal, ready_at_rest}
 use Rattle.kb_walk.proofs.WipeCalls.{HasFormedTree}
-use Rattle.kb_intent.specs.Finish.{HasJournal, store_after, KeepsOpening, Finishes}
-use Rattle.kb_intent.specs.Recover.{Found, HasDamagedJournal, IsDamageTold, Recovers}
+use Rattle.kb_intent.specs.Finish.{HasJournal, store_after, KeepsOpening, EndsTransaction}
+use Rattle.kb_intent.specs.Recover.{FoundJournal, HasDamagedJournal, IsDamageTold, Recovers}
 use Rattle.kb_intent.specs.declared.changing.Ran.{Ran}
 use Rattle.kb_intent.proofs.EndLaws.{stands_same}
 
@@ -127,7 +127,7 @@ module _ {A : Type 0} (roots : Roots) (old mid new : State) (looked : Result A W
     history = l.unchanged.history i;
   }
 
-  found_since : (tree : Tree) (r : Result (Option Recovered) Stop) → IfOk r (Found roots as_old new tree) → IfOk r (Found roots old new tree)
+  found_since : (tree : Tree) (r : Result (Option Recovered) Stop) → IfOk r (FoundJournal roots as_old new tree) → IfOk r (FoundJournal roots old new tree)
   found_since tree (Err stop) f = tt
   found_since tree (Ok None) f = record { bare = f.bare; unchanged = record { tree = f.unchanged.tree; history = f.unchanged.history; ran_none = record { ran = f.unchanged.ran_none.ran; lasts = record { roots = f.unchanged.ran_none.lasts.roots; script = f.unchanged.ran_none.lasts.script; told = f.unchanged.ran_none.lasts.told } } } }
   found_since tree (Ok (Some found)) f = record {
@@ -275,12 +275,12 @@ module _ (roots : Roots) (intent : Intent) (old new : State) (formed : HasFormed
         subst (λ found. AreSparing roots (own_areas found) old.history.soft) (ready_by roots old.script tree spared.0 spared.1 intent (journal tree told) (only tree told) spared.2).1 spared.3,
       )
 
-  keeps : (result : Result Ran WorldError) → Finishes roots intent.changes old new result → (tree : Tree) → old.tree ≡ Some tree → (store : Tree) → Stands roots store old → KeepsOpening roots store old new result
+  keeps : (result : Result Ran WorldError) → EndsTransaction roots intent.changes old new result → (tree : Tree) → old.tree ≡ Some tree → (store : Tree) → Stands roots store old → KeepsOpening roots store old new result
   keeps result f tree told store stands =
       let is = store_is tree told store stands in
       subst (λ other. KeepsOpening roots other old new result) is.0 (f.survives tree told intent (journal tree told) refl is.1)
 
-  pub recovers_done : (ran : Ran) → Finishes roots intent.changes old new (Ok ran) → Recovers roots old new (Ok (Some (record { words = intent.words; requests = ran.requests; replies = ran.replies })))
+  pub recovers_done : (ran : Ran) → EndsTransaction roots intent.changes old new (Ok ran) → Recovers roots old new (Ok (Some (record { words = intent.words; requests = ran.requests; replies = ran.replies })))
   recovers_done ran f = record {
     found = λ tree told. record {
       intent = intent;
@@ -304,7 +304,7 @@ module _ (roots : Roots) (intent : Intent) (old new : State) (formed : HasFormed
       not_stopped : (stop : Stop) → Ok (Some (record { words = intent.words; requests = ran.requests; replies = ran.replies })) ≡ stopped stop → ⊥
       not_stopped stop e = cc
 
-  pub recovers_cut : (error : WorldError) (stop : Stop) → stop ≡ stop_for error → Finishes roots intent.changes old new (Err error) → Recovers roots old new (Err stop)
+  pub recovers_cut : (error : WorldError) (stop : Stop) → stop ≡ stop_for error → EndsTransaction roots intent.changes old new (Err error) → Recovers roots old new (Err stop)
   recovers_cut error stop is f = subst (λ s. Recovers roots old new (Err s)) (sym is) (record {
     found = λ tree told. tt;
     refused = λ why failed. absurd (unrefused error why (stops_same (stop_for error) (Refused why) failed));

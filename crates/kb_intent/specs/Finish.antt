@@ -45,7 +45,7 @@ store_after roots script changes tree = public_tree roots (done roots script cha
 
 -- The call does what is left of a transaction of these changes. Where its journal stands and no soft area does harm, it
 -- survives a crash.
-pub record Finishes (roots : Roots) (changes : List Change) (old new : State) (result : Result Ran WorldError) : Type 0 where
+pub record EndsTransaction (roots : Roots) (changes : List Change) (old new : State) (result : Result Ran WorldError) : Type 0 where
   pub done : ForSome old.tree (λ tree. IfOk result (IsFinished roots changes old new tree))
   pub survives : ForSome old.tree (λ tree. (intent : Intent) → HasJournal roots intent tree → intent.changes ≡ changes
       → AreSparing roots (areas_of changes) old.history.soft

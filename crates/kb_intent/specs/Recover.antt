@@ -29,9 +29,9 @@ pub record IsAtRest (roots : Roots) (old new : State) (tree : Tree) : Type 0 whe
   pub bare : node_at tree (intent_path roots) ≡ None
   pub unchanged : Unchanged old new
 
-abbrev pub Found : Roots → State → State → Tree → Option Recovered → Type 0
-Found roots old new tree None = IsAtRest roots old new tree
-Found roots old new tree (Some found) = IsRecovered roots old new tree found
+abbrev pub FoundJournal : Roots → State → State → Tree → Option Recovered → Type 0
+FoundJournal roots old new tree None = IsAtRest roots old new tree
+FoundJournal roots old new tree (Some found) = IsRecovered roots old new tree found
 
 -- what stands at the journal's path isn't a file with the text of a valid intent
 pub record HasDamagedJournal (roots : Roots) (tree : Tree) : Type 0 where
@@ -46,7 +46,7 @@ pub record IsDamageTold (roots : Roots) (old : State) (why : Refusal) : Type 0 w
 -- The call does the transaction of the journal, if one stands. Where a store stands in a told tree it survives a crash. A damaged journal
 -- is refused, and then nothing is changed.
 pub record Recovers (roots : Roots) (old new : State) (result : Result (Option Recovered) Stop) : Type 0 where
-  pub found : ForSome old.tree (λ tree. IfOk result (Found roots old new tree))
+  pub found : ForSome old.tree (λ tree. IfOk result (FoundJournal roots old new tree))
   pub refused : (why : Refusal) → IsErrOf result (Refused why) → IsDamageTold roots old why
   pub damaged : ForSome old.tree (λ tree. HasDamagedJournal roots tree → Unchanged old new)
   pub survives : ForSome old.tree (λ tree. (store : Tree) → Stands roots store old → KeepsOpening roots store old new result)

@@ -36,9 +36,9 @@ pub record ChangesBut (may : Path → Bool) (change : Tree → Tree) {T : Type 0
   pub cause : HasCause Failed old new result
 
 -- the file or the link
-abbrev pub node_of : Content → Node
-node_of (content.File bytes exec) = node.File bytes.now exec
-node_of (content.Link text) = node.Link text.now
+abbrev pub staged_node : Content → Node
+staged_node (content.File bytes exec) = node.File bytes.now exec
+staged_node (content.Link text) = node.Link text.now
 
 -- the tree with the node at the path, in a directory that is made first
 abbrev pub put_inside : Path → Node → Tree → Tree

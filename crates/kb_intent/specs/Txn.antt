@@ -1,5 +1,5 @@
 -- A transaction that is being put together: its changes, and what is staged for them. This project's own.
-use Rattle.std.specs.Prelude.{◌≡◌, ℕ, ◌+◌, ◌≤◌, Bool, true, false, ◌&&◌, List, [], ◌∷◌, ◌++◌, length, Option, Some, None, Result, IfOk, OnOk, OnErr, IsErrOf}
+use Rattle.std.specs.Prelude.{◌≡◌, ℕ, ◌+◌, ◌≤◌, true, false, List, [], ◌∷◌, ◌++◌, length, Option, Some, None, Result, IfOk, OnOk, OnErr, IsErrOf}
 use Rattle.std.specs.List.{list_any, slice_get}
 use Rattle.std.specs.Option.{ForSome}
 use Rattle.kb_world.specs.Path.{Path, is_under}
@@ -69,8 +69,8 @@ abbrev pub with_count : RootName → Txn → Txn
 with_count root txn = record txn { staged = one_more root txn.staged }
 
 -- it has one change more, and nothing else is changed
-abbrev pub with_change : Change → Txn → Txn
-with_change change txn = record txn { intent = record txn.intent { changes = txn.intent.changes ++ change ∷ [] } }
+abbrev pub with_change_behind : Change → Txn → Txn
+with_change_behind change txn = record txn { intent = record txn.intent { changes = txn.intent.changes ++ change ∷ [] } }
 
 -- these nodes are staged for the transaction, no others, and it counts them
 pub record AreStagedFor (txn : Txn) (staged : Staged) (tree : Tree) : Type 0 where
@@ -92,7 +92,7 @@ pub record StaysAside (roots : Roots) {T : Type 0} (old new : State) (result : R
 -- ---- a transaction is begun
 
 -- it has the job's roots and words, no change, and counts nothing
-pub record IsBegun (job : Job) (txn : Txn) : Type 0 where
+pub record IsNewTransaction (job : Job) (txn : Txn) : Type 0 where
   pub roots : txn.roots ≡ job.host.roots
   pub words : txn.intent.words ≡ job.words
   pub changes : txn.intent.changes ≡ []
@@ -112,8 +112,8 @@ abbrev pub IsClearedNow : Txn → Option Tree → Tree → Type 0
 IsClearedNow txn new tree = (now : Tree) × (new ≡ Some now) × IsCleared txn tree now
 
 -- The call begins a transaction of the job.
-pub record Begins (job : Job) (old new : State) (result : Result Txn Stop) : Type 0 where
-  pub begun : IfOk result (IsBegun job)
+pub record BeginsTransaction (job : Job) (old new : State) (result : Result Txn Stop) : Type 0 where
+  pub begun : IfOk result (IsNewTransaction job)
   pub cleared : ForSome old.tree (λ tree. IfOk result (λ txn. IsClearedNow txn new.tree tree))
   pub aside : StaysAside job.host.roots old new result
 

@@ -11,7 +11,7 @@ ghost use Rattle.kb_again.specs.Sparing.{areas_of};
 ghost use Rattle.kb_again.specs.Within.{staging_paths};
 ghost use Rattle.kb_walk.specs.Wipe.{Wipes};
 ghost use Rattle.kb_intent.specs.Clearing.{SettlesAll, TakesAllAway};
-ghost use Rattle.kb_intent.specs.Finish.{HasJournal, Finishes};
+ghost use Rattle.kb_intent.specs.Finish.{HasJournal, EndsTransaction};
 
 use crate::changing::{Ran, do_changes};
 use kb_changes::Change;
@@ -114,7 +114,7 @@ pub(crate) fn finish<W: World>(
     requires valid { is_valid roots.now changes.now ≡ true }
     requires journal { ForSome (W.state world.old).tree (λ tree. (intent : Intent)
         × HasJournal roots.now intent tree × (intent.changes ≡ changes.now)) }
-    ensures { Finishes roots.now changes.now (W.state world.old) (W.state world.new) result }
+    ensures { EndsTransaction roots.now changes.now (W.state world.old) (W.state world.new) result }
 {
     let ran = match do_changes(alloc, world, roots, changes) {
         Ok(ran) => ran,

@@ -6,7 +6,7 @@ ghost use Rattle.kb_world.specs.Patch.{all_wiped};
 ghost use Rattle.kb_world.specs.Path as paths;
 ghost use Rattle.kb_world.specs.Tree.{with_node, CanMake};
 ghost use Rattle.kb_intent.specs.Doing.{StepsTo, made_dir_at};
-ghost use Rattle.kb_intent.specs.Staging.{ChangesBut, CanPutInside, node_of, put_inside};
+ghost use Rattle.kb_intent.specs.Staging.{ChangesBut, CanPutInside, staged_node, put_inside};
 ghost use Rattle.kb_intent.specs.Txn as rule;
 
 use crate::doing::make_directory;
@@ -21,9 +21,11 @@ pub(crate) enum Content<'a> {
     Link { text: &'a str },
 }
 
-// Makes the directory that the path is to stand in, where nothing stands there and it is itself to stand in one.
+// Makes the directory that the path is to stand in, where nothing stands there and it is itself to
+// stand in one.
 fn make_parent<W: World>(alloc: Global, world: &mut W, path: &Path) -> Result<(), WorldError>
-    ensures { StepsTo (made_dir_at (paths.parent path.now)) (W.state world.old) (W.state world.new) result }
+    ensures { StepsTo (made_dir_at (paths.parent path.now)) (W.state world.old)
+        (W.state world.new) result }
 {
     let directory = match path.parent() {
         Ok(directory) => directory,
@@ -43,7 +45,8 @@ fn put_content<W: World>(
     content: &Content<'_>,
 ) -> Result<(), WorldError>
     requires { ForSome (W.state world.old).tree (λ tree. CanMake tree path.now) }
-    ensures { ChangesBut (λ q. paths.is_under q path.now) (with_node path.now (node_of content.now)) (W.state world.old) (W.state world.new) result }
+    ensures { ChangesBut (λ q. paths.is_under q path.now)
+        (with_node path.now (staged_node content.now)) (W.state world.old) (W.state world.new) result }
 {
     match content {
         Content::File { bytes, exec } => world.put(alloc, path, bytes, *exec),
@@ -51,7 +54,8 @@ fn put_content<W: World>(
     }
 }
 
-/// Puts it at a path where nothing stands. The directory there is made first, where nothing stands at its path.
+/// Puts it at a path where nothing stands. The directory there is made first, where nothing stands
+/// at its path.
 pub(crate) fn put_staged_content<W: World>(
     alloc: Global,
     world: &mut W,
@@ -59,7 +63,8 @@ pub(crate) fn put_staged_content<W: World>(
     content: &Content<'_>,
 ) -> Result<(), WorldError>
     requires { ForSome (W.state world.old).tree (λ tree. CanPutInside tree path.now) }
-    ensures { ChangesBut (λ q. paths.is_under q (paths.parent path.now)) (put_inside path.now (node_of content.now)) (W.state world.old) (W.state world.new) result }
+    ensures { ChangesBut (λ q. paths.is_under q (paths.parent path.now))
+        (put_inside path.now (staged_node content.now)) (W.state world.old) (W.state world.new) result }
 {
     match make_parent(alloc, world, path) {
         Ok(()) => put_content(alloc, world, path, content),
@@ -67,12 +72,12 @@ pub(crate) fn put_staged_content<W: World>(
     }
 }
 
-/// What a transaction that wasn't committed may have left: the journal that was begun, and the staging directories.
+/// What a transaction that wasn't committed may have left: the journal that was begun, and the
+/// staging directories.
 pub(crate) fn left_places(alloc: Global, roots: &Roots) -> Result<Vec<Path>, AllocError>
     ensures { IfOk result (λ places. places.items ≡ rule.left_places roots.now) }
 {
-    Ok(vec![
-        in alloc;
+    Ok(vec![in alloc;
         roots.dkms.child(alloc, ".intent.new")?,
         roots.dkms.child(alloc, ".kb-staged")?,
         roots.src.child(alloc, ".kb-staged")?,
@@ -87,7 +92,8 @@ pub(crate) fn wipe_each<W: World>(
     world: &mut W,
     places: &[Path],
 ) -> Result<(), WorldError>
-    ensures { ChangesBut (λ q. list_any (paths.is_under q) places.now) (all_wiped places.now) (W.state world.old) (W.state world.new) result }
+    ensures { ChangesBut (λ q. list_any (paths.is_under q) places.now) (all_wiped places.now)
+        (W.state world.old) (W.state world.new) result }
 {
     for place in places {
         match wipe(alloc, world, place) {

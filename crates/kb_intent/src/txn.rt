@@ -1,12 +1,13 @@
 // A transaction is put together.
-ghost use Rattle.std.specs.Prelude.{◌≡◌, ◌+◌, ◌<◌, ◌^◌, true, [], IfOk, OnErr, OnOk};
+ghost use Rattle.std.specs.Prelude.{◌≡◌, ◌+◌, ◌<◌, ◌^◌, true, IfOk, OnErr, OnOk};
 ghost use Rattle.std.specs.Option.{ForSome};
 ghost use Rattle.kb_world.specs.Roots.{AreApart};
 ghost use Rattle.kb_world.specs.Tree.{node_at, is_dir};
 ghost use Rattle.kb_world.specs.declared.tree.Node.TheVariants as nodes;
 ghost use Rattle.kb_changes.specs.Change.{root_path};
-ghost use Rattle.kb_intent.specs.Staging.{node_of};
-ghost use Rattle.kb_intent.specs.Txn.{Begins, IsBegun, IsStagedFor, Stages, count_below, none_counted, one_more, with_change};
+ghost use Rattle.kb_intent.specs.Staging.{staged_node};
+ghost use Rattle.kb_intent.specs.Txn.{BeginsTransaction, IsNewTransaction, IsStagedFor, Stages, count_below};
+ghost use Rattle.kb_intent.specs.Txn.{none_counted, one_more, with_change_behind};
 
 use crate::staging::{Content, left_places, put_staged_content, wipe_each};
 use kb_changes::{Change, Intent, RootName, staged_path};
@@ -58,11 +59,12 @@ impl Counts {
     }
 }
 
-/// A transaction that is put together: files and links are staged for it, changes are added, and then it is committed.
+/// A transaction that is put together: files and links are staged for it, changes are added, and
+/// then it is committed.
 #[derive(Debug, Drop)]
 pub struct Txn {
-    roots: Roots,
-    intent: Intent,
+    pub(crate) roots: Roots,
+    pub(crate) intent: Intent,
     staged: Counts,
 }
 
@@ -76,7 +78,7 @@ fn copied(alloc: Global, words: &[Text]) -> Result<Texts, AllocError>
 impl Txn {
     // A transaction of the job without changes.
     fn new(alloc: Global, job: &Job) -> Result<Txn, AllocError>
-        ensures { IfOk result (IsBegun job.now) }
+        ensures { IfOk result (IsNewTransaction job.now) }
     {
         Ok(Txn {
             roots: job.host.roots.clone()?,
@@ -88,10 +90,11 @@ impl Txn {
         })
     }
 
-    /// Begins a transaction of the job: what an earlier one left staged goes, and a journal that it began.
+    /// BeginsTransaction a transaction of the job: what an earlier one left staged goes, and a journal that it
+    /// began.
     pub fn begin<W: World>(alloc: Global, world: &mut W, job: &Job) -> Result<Txn, Stop>
         requires { AreApart job.now.host.roots }
-        ensures { Begins job.now (W.state world.old) (W.state world.new) result }
+        ensures { BeginsTransaction job.now (W.state world.old) (W.state world.new) result }
     {
         let txn = match Txn::new(alloc, job) {
             Ok(txn) => txn,
@@ -116,10 +119,12 @@ impl Txn {
         content: &Content<'_>,
     ) -> Result<u64, Stop>
         requires apart { AreApart self.old.roots }
-        requires there { ForSome (W.state world.old).tree (λ tree. is_dir (node_at tree (root_path self.old.roots root)) ≡ true) }
+        requires there { ForSome (W.state world.old).tree (λ tree.
+            is_dir (node_at tree (root_path self.old.roots root)) ≡ true) }
         requires staged { ForSome (W.state world.old).tree (IsStagedFor self.old) }
         requires room { count_below self.old.staged root + 1 < 2 ^ 64 }
-        ensures { Stages root (node_of content.now) self.old self.new (W.state world.old) (W.state world.new) result }
+        ensures { Stages root (staged_node content.now) self.old self.new (W.state world.old)
+            (W.state world.new) result }
     {
         let number = self.staged.below(root);
         let path = match staged_path(alloc, &self.roots, root, number) {
@@ -144,10 +149,12 @@ impl Txn {
         exec: bool,
     ) -> Result<u64, Stop>
         requires apart { AreApart self.old.roots }
-        requires there { ForSome (W.state world.old).tree (λ tree. is_dir (node_at tree (root_path self.old.roots root)) ≡ true) }
+        requires there { ForSome (W.state world.old).tree (λ tree.
+            is_dir (node_at tree (root_path self.old.roots root)) ≡ true) }
         requires staged { ForSome (W.state world.old).tree (IsStagedFor self.old) }
         requires room { count_below self.old.staged root + 1 < 2 ^ 64 }
-        ensures { Stages root (nodes.File bytes.now exec) self.old self.new (W.state world.old) (W.state world.new) result }
+        ensures { Stages root (nodes.File bytes.now exec) self.old self.new (W.state world.old)
+            (W.state world.new) result }
     {
         let content = Content::File { bytes, exec };
         self.stage(alloc, world, root, &content)
@@ -162,19 +169,21 @@ impl Txn {
         text: &str,
     ) -> Result<u64, Stop>
         requires apart { AreApart self.old.roots }
-        requires there { ForSome (W.state world.old).tree (λ tree. is_dir (node_at tree (root_path self.old.roots root)) ≡ true) }
+        requires there { ForSome (W.state world.old).tree (λ tree.
+            is_dir (node_at tree (root_path self.old.roots root)) ≡ true) }
         requires staged { ForSome (W.state world.old).tree (IsStagedFor self.old) }
         requires room { count_below self.old.staged root + 1 < 2 ^ 64 }
-        ensures { Stages root (nodes.Link text.now) self.old self.new (W.state world.old) (W.state world.new) result }
+        ensures { Stages root (nodes.Link text.now) self.old self.new (W.state world.old)
+            (W.state world.new) result }
     {
         let content = Content::Link { text };
         self.stage(alloc, world, root, &content)
     }
 
-    /// Adds a change behind the others. An error changes nothing. That the changes are valid together is asked where
-    /// they are committed.
+    /// Adds a change behind the others. An error changes nothing. That the changes are valid together
+    /// is asked where they are committed.
     pub fn add(&mut self, change: Change) -> Result<(), AllocError>
-        ensures ok { OnOk result (self.new ≡ with_change change self.old) }
+        ensures ok { OnOk result (self.new ≡ with_change_behind change self.old) }
         ensures err { OnErr result (self.new ≡ self.old) }
     {
         self.intent.changes.push(change)

@@ -14,9 +14,9 @@ abbrev pub is_field_end : ℕ → Bool
 is_field_end c = nat_eq c 32 || nat_eq c 10
 
 -- the value was read, where there was memory for it
-abbrev pub IsRead : {T : Type 0} → T → Result T IntentError → Type 0
-IsRead value (Ok got) = got ≡ value
-IsRead value (Err error) = error ≡ NoMemory
+abbrev pub IsValueRead : {T : Type 0} → T → Result T IntentError → Type 0
+IsValueRead value (Ok got) = got ≡ value
+IsValueRead value (Err error) = error ≡ NoMemory
 
 -- the value was read, and these fields are left
 abbrev pub ReadsBack : {T : Type 0} → T → List (List ℕ) → Result T IntentError → List (List ℕ) → Type 0

@@ -4,7 +4,7 @@ ghost use Rattle.std.specs.List.{slice_split};
 ghost use Rattle.std.specs.Str.{IsUtf8};
 ghost use Rattle.kb_changes.specs.Text as rule;
 ghost use Rattle.kb_journal.specs.declared.error.IntentError.TheVariants.{NoMemory};
-ghost use Rattle.kb_journal.specs.Reads.{is_field_end, IsNoText, IsRead};
+ghost use Rattle.kb_journal.specs.Reads.{is_field_end, IsNoText, IsValueRead};
 
 use crate::error::IntentError;
 use hex::FromHexError;
@@ -98,8 +98,8 @@ pub(crate) fn is_word(field: &Bytes, word: &str) -> bool
 // The text of a field that is one: of a dash the empty text, of others the bytes in hexadecimal.
 pub(crate) fn text_of(alloc: Global, field: &[u8]) -> Result<Option<Text>, IntentError>
     ensures text { (text : List ℕ) → IsUtf8 text → field.now ≡ rule.text_field text
-        → IsRead (Some text) result }
-    ensures none { IsNoText field.now → IsRead None result }
+        → IsValueRead (Some text) result }
+    ensures none { IsNoText field.now → IsValueRead None result }
     ensures failed { IfErr result (λ error. error ≡ NoMemory) }
 {
     if field == "-".as_bytes() {

@@ -3,7 +3,7 @@ ghost use Rattle.std.specs.Prelude.{◌≡◌, List, ℕ, ◌∷◌, ◌++◌, A
 ghost use Rattle.std.specs.Str.{IsUtf8};
 ghost use Rattle.kb_changes.specs.Text as rule;
 ghost use Rattle.kb_changes.specs.declared.change.Intent.{Intent as AnIntent};
-ghost use Rattle.kb_journal.specs.Reads.{IsNoText, IsRead, ReadsBack};
+ghost use Rattle.kb_journal.specs.Reads.{IsNoText, IsValueRead, ReadsBack};
 ghost use Rattle.kb_journal.specs.declared.error.IntentError.TheVariants.{Damaged};
 
 use crate::error::IntentError;
@@ -41,7 +41,7 @@ fn read_words(alloc: Global, fields: &mut Fields) -> Result<Texts, IntentError>
 // the digest.
 fn read_loosely(alloc: Global, text: &[u8]) -> Result<Intent, IntentError>
     ensures { (intent : AnIntent) → rule.AreTexts intent → text.now ≡ rule.intent_text intent
-        → IsRead intent result }
+        → IsValueRead intent result }
 {
     let mut fields = Fields::of(alloc, text)?;
     // `kmodboot intent 1` and `words`

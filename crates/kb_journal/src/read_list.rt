@@ -3,7 +3,7 @@ ghost use Rattle.std.specs.Prelude.{◌≡◌, ◌<◌, ◌^◌, List, ℕ, ◌�
 ghost use Rattle.std.specs.Fmt.{decimal};
 ghost use Rattle.std.specs.Str.{IsUtf8};
 ghost use Rattle.kb_changes.specs.Text as rule;
-ghost use Rattle.kb_journal.specs.Reads.{IsRead, ReadsBack};
+ghost use Rattle.kb_journal.specs.Reads.{IsValueRead, ReadsBack};
 ghost use Rattle.kb_world.specs.Path.{Path as APath, IsPath, path_text};
 
 use crate::error::IntentError;
@@ -28,7 +28,7 @@ pub(crate) fn read_text(alloc: Global, fields: &mut Fields) -> Result<Text, Inte
 }
 
 fn path_of(alloc: Global, text: &str) -> Result<Path, IntentError>
-    ensures { (path : APath) → IsPath path → text.now ≡ path_text path → IsRead path result }
+    ensures { (path : APath) → IsPath path → text.now ≡ path_text path → IsValueRead path result }
 {
     match Path::parse(alloc, text) {
         Ok(path) => Ok(path),
@@ -49,7 +49,7 @@ pub(crate) fn read_path(alloc: Global, fields: &mut Fields) -> Result<Path, Inte
 }
 
 fn number_of(field: &[u8]) -> Result<u64, IntentError>
-    ensures { (number : ℕ) → number < 2 ^ 64 → field.now ≡ decimal number → IsRead number result }
+    ensures { (number : ℕ) → number < 2 ^ 64 → field.now ≡ decimal number → IsValueRead number result }
 {
     match str::from_utf8(field) {
         Ok(text) => match text.parse::<u64>() {

@@ -1,25 +1,67 @@
--- The link stands, and then the script is run.
-use Rattle.std.proofs.Common.{ap, sym, refl, ◌∙◌, subst}
-use Rattle.kb_world.specs.Tree.{Tree, node_at, is_dir}
-use Rattle.kb_world.proofs.Told.{told_before}
-use Rattle.kb_dkms.specs.Places.{place_step, IsNested}
-use Rattle.kb_dkms.proofs.AddLaws.{dir_stays}
-use Rattle.kb_dkms.proofs.DoesAdd.{nested, added_and_ran}
+-- The link stands and its script is run by one commit.
+use Rattle.std.proofs.Common.{◌++◌, ap, ◌∙◌}
+use Rattle.kb_dkms.specs.Add.{add_and_run}
+use Rattle.kb_dkms.specs.Commit.{endings}
+use Rattle.kb_dkms.proofs.AddRun.{unprepared_add, add_is_valid, root_there, bare_there, did_add, stopped_add, untold_add}
+use Rattle.kb_dkms.proofs.WantLaws.{wants_first, answers_wanting}
 use Rattle.kb_dkms.proofs.adding.add_and_run.Goals as goal
 
-pub make_link-requires-clause-nested : goal.make_link-requires-clause-nested
-make_link-requires-clause-nested g c = subst IsNested (sym c.requires.places) (nested c.args.source.host.now.roots c.args.source.key.now)
+pub returns-in_err-line : goal.returns-in_err-line
+returns-in_err-line g c =
+    let host = c.args.source.job.now.host in
+    wants_first host.roots (add_and_run host (g.W.World.state c.args.world.now).script c.args.source.key.now c.args.conf.now) (g.W.World.state c.args.world.now) c.args.report.now _ c.from_residual.result c.from_residual.ensures.1
 
-pub run_script-requires-clause-dir : goal.run_script-requires-clause-dir
-run_script-requires-clause-dir g c now told =
+pub returns-in_err-push : goal.returns-in_err-push
+returns-in_err-push g c =
+    let host = c.args.source.job.now.host in
+    wants_first host.roots (add_and_run host (g.W.World.state c.args.world.now).script c.args.source.key.now c.args.conf.now) (g.W.World.state c.args.world.now) c.args.report.now _ c.from_residual-in_err-push.result c.from_residual-in_err-push.ensures.1
+
+pub returns-in_err-request : goal.returns-in_err-request
+returns-in_err-request g c =
+    let host = c.args.source.job.now.host in
+    wants_first host.roots (add_and_run host (g.W.World.state c.args.world.now).script c.args.source.key.now c.args.conf.now) (g.W.World.state c.args.world.now) c.args.report.now _ c.from_residual-in_err-request.result c.from_residual-in_err-request.ensures.1
+
+pub returns-in-Err : goal.returns-in-Err
+returns-in-Err g c =
     let source = c.args.source in
-    let places = c.args.places.now in
-    let before = told_before (place_step places) _ _ now c.in-Ok.ensures.done told in
-    ap (λ (t : Tree). is_dir (node_at t source.dir.now)) before.changed
-    ∙ dir_stays source.host.now.roots c.requires.apart source.key.now places c.requires.places source.dir.now c.requires.dir before.tree (c.requires.there before.tree before.was)
+    unprepared_add source.job.now.host c.requires.apart source.key.now c.requires.named c.args.conf.now source.places.now c.requires.places _ c.as_ref.ensures.value c.in_ok-request.request c.in_ok-request.ensures _ _
+    c.requires.can (g.met.W.World.formed c.args.world.now) c.args.report.now _ c.in-Err.stop c.in-Err.ensures
+
+pub commit-requires-clause-valid : goal.commit-requires-clause-valid
+commit-requires-clause-valid g c =
+    let source = c.args.source in
+    add_is_valid source.job.now.host c.requires.apart source.key.now c.requires.named c.args.conf.now source.places.now c.requires.places _ c.as_ref.ensures.value c.in_ok-request.request c.in_ok-request.ensures _ _
+    c.requires.can (g.met.W.World.formed c.args.world.now) c.in-Ok.txn c.in-Ok.ensures (g.met.W.World.formed c.prepare.new.world)
+
+pub commit-requires-clause-dkms : goal.commit-requires-clause-dkms
+commit-requires-clause-dkms g c =
+    let source = c.args.source in
+    root_there source.job.now.host c.requires.apart source.key.now c.requires.named c.args.conf.now source.places.now c.requires.places _ c.as_ref.ensures.value c.in_ok-request.request c.in_ok-request.ensures _ _
+    c.requires.can (g.met.W.World.formed c.args.world.now) c.in-Ok.txn c.in-Ok.ensures (g.met.W.World.formed c.prepare.new.world)
+
+pub commit-requires-clause-bare : goal.commit-requires-clause-bare
+commit-requires-clause-bare g c =
+    let source = c.args.source in
+    bare_there source.job.now.host c.requires.apart source.key.now c.requires.named c.args.conf.now source.places.now c.requires.places _ c.as_ref.ensures.value c.in_ok-request.request c.in_ok-request.ensures _ _
+    c.requires.can (g.met.W.World.formed c.args.world.now) c.in-Ok.txn c.in-Ok.ensures (g.met.W.World.formed c.prepare.new.world)
+
+pub returns-in-Err-commit : goal.returns-in-Err-commit
+returns-in-Err-commit g c =
+    let source = c.args.source in
+    stopped_add source.job.now.host c.requires.apart source.key.now c.requires.named c.args.conf.now source.places.now c.requires.places _ c.as_ref.ensures.value c.in_ok-request.request c.in_ok-request.ensures _ _
+    c.requires.can (g.met.W.World.formed c.args.world.now) c.in-Ok.txn c.in-Ok.ensures (g.met.W.World.formed c.prepare.new.world) _ c.args.report.now _ c.in-Err-commit.stop c.in-Err-commit.ensures
+
+pub returns-in_err-push_endings : goal.returns-in_err-push_endings
+returns-in_err-push_endings g c =
+    let source = c.args.source in
+    let host = source.job.now.host in
+    answers_wanting host.roots (add_and_run host (g.W.World.state c.args.world.now).script source.key.now c.args.conf.now) _ _ c.args.report.now _ c.from_residual-in_err-push_endings.result c.from_residual-in_err-push_endings.ensures.1
+    (untold_add source.job.now.host c.requires.apart source.key.now c.requires.named c.args.conf.now source.places.now c.requires.places _ c.as_ref.ensures.value c.in_ok-request.request c.in_ok-request.ensures _ _
+    c.requires.can (g.met.W.World.formed c.args.world.now) c.in-Ok.txn c.in-Ok.ensures (g.met.W.World.formed c.prepare.new.world) _ c.args.report.now _ c.in-Ok-commit.replies c.in-Ok-commit.ensures)
 
 pub returns : goal.returns
 returns g c =
     let source = c.args.source in
-    added_and_ran source.host.now c.requires.apart source.key.now c.requires.named c.args.conf.now source.given.now c.requires.given c.args.places.now c.requires.places _ c.as_ref.ensures.value _ _ _
-    c.args.report.now _ _ c.run_script.result c.in-Ok.ensures c.as_bytes.result.now (c.as_bytes.ensures.value ∙ c.in_ok-line.ensures.ok) c.in_ok-push.ensures.ok refl c.run_script.ensures
+    did_add source.job.now.host c.requires.apart source.key.now c.requires.named c.args.conf.now source.places.now c.requires.places _ c.as_ref.ensures.value c.in_ok-request.request c.in_ok-request.ensures _ _
+    c.requires.can (g.met.W.World.formed c.args.world.now) c.in-Ok.txn c.in-Ok.ensures (g.met.W.World.formed c.prepare.new.world) _ c.args.report.now _ c.in-Ok-commit.replies c.in-Ok-commit.ensures
+    c.as_bytes.result.now (c.as_bytes.ensures.value ∙ c.in_ok-line.ensures.ok) c.in_ok-push.ensures.ok (c.in_ok-push_endings.ensures ∙ ap (λ replies. c.args.report.now.err ++ endings replies) c.as_slice.ensures)

@@ -1,0 +1,175 @@
+-- The transaction of an add is put together aside from all that counts.
+use Rattle.std.proofs.Common.{◌≡◌, ℕ, Bool, true, false, ◌&&◌, not, List, [], ◌∷◌, ◌++◌, Option, Some, None, is_some, refl, sym, ap, ◌∙◌, subst}
+use Rattle.std.proofs.lemmas.List.{append-nil}
+use Rattle.std.specs.Prelude.{Result, Ok, Err, codes, IsErrOf}
+use Rattle.std.specs.Option.{ForSome}
+use Rattle.kb_world.specs.Path.{Path}
+use Rattle.kb_world.specs.Public.{intent_path, is_private}
+use Rattle.kb_world.specs.Roots.{AreApart}
+use Rattle.kb_world.specs.State.{State}
+use Rattle.kb_world.specs.Tree.{Tree, node_at, is_dir}
+use Rattle.kb_world.specs.declared.child.Request.{Request}
+use Rattle.kb_world.specs.declared.job.Job.{Job}
+use Rattle.kb_world.specs.declared.roots.Roots.{Roots}
+use Rattle.kb_world.specs.declared.stop.Stop.{Stop}
+use Rattle.kb_world.specs.declared.stop.Stop.TheVariants.{Refused, Fault, NoMemory}
+use Rattle.kb_world.specs.declared.tree.Node.TheVariants as node
+use Rattle.kb_world.proofs.DoesLaws.{cause_then, cause_other, ran_none_then}
+use Rattle.kb_world.proofs.PathLaws.{under-self, under-beside}
+use Rattle.kb_world.proofs.PublicLaws.{IsAlwaysPublic, in_dkms}
+use Rattle.kb_changes.specs.Change.{staged_path}
+use Rattle.kb_changes.specs.Valid.{new_intent_path}
+use Rattle.kb_changes.specs.declared.change.RootName.TheVariants as root_name
+use Rattle.kb_machine.specs.Aside.{is_aside, IsSameBut, WorksAside}
+use Rattle.kb_machine.proofs.AsideThenLaws.{aside_then}
+use Rattle.kb_intent.specs.Txn.{StaysAside, BeginsTransaction, Stages, IsStagedFor, AreStagedFor, none_staged}
+use Rattle.kb_intent.specs.declared.txn.Txn.{Txn}
+use Rattle.kb_dkms.specs.Commit.{changes_of_add, HasLinkStaged, Prepares}
+use Rattle.kb_dkms.specs.declared.places.Places.{Places}
+
+-- ---- what is public isn't aside
+
+pub open_aside : (roots : Roots) (path : Path) → IsAlwaysPublic roots path → is_aside roots path ≡ false
+open_aside roots path opens = by _ (is_private roots path) _ _ (opens None)
+  where
+    by : (a b c d : Bool) → (a && not b && not c) ≡ true → (b && d) ≡ false
+    by true true c d h = let impossible : false ≡ true = h in cc
+    by true false c d h = refl
+    by false b c d h = let impossible : false ≡ true = h in cc
+
+pub dkms_open : (roots : Roots) → AreApart roots → IsAlwaysPublic roots roots.dkms
+dkms_open roots apart = subst (IsAlwaysPublic roots) (append-nil roots.dkms) (in_dkms roots apart [] refl refl)
+
+pub intent_kept : (roots : Roots) → is_aside roots (intent_path roots) ≡ false
+intent_kept roots = ap (λ t. is_private roots (intent_path roots) && not t) (under-self (intent_path roots)) ∙ never (is_private roots (intent_path roots))
+  where
+    never : (x : Bool) → (x && false) ≡ false
+    never true = refl
+    never false = refl
+
+-- ---- the tree behind work aside, and the one before
+
+-- the tree before it, which is the same but for what is aside
+pub record ToldBefore (roots : Roots) (old : State) (now : Tree) : Type 0 where
+  pub tree : Tree
+  pub told : old.tree ≡ Some tree
+  pub same : IsSameBut (is_aside roots) tree now
+
+pub before_aside : (roots : Roots) (old new : State) (now : Tree) → new.tree ≡ Some now → is_some new.tree ≡ is_some old.tree → WorksAside roots old new → ToldBefore roots old now
+before_aside roots old new now told lasts w = by old.tree refl
+  where
+    some_same : (a b : Tree) → Some a ≡ Some b → a ≡ b
+    some_same a b e = cc
+
+    by : (o : Option Tree) → old.tree ≡ o → ToldBefore roots old now
+    by None e = let impossible : true ≡ false = sym (ap is_some told) ∙ lasts ∙ ap is_some e in absurd (cc)
+    by (Some tree) e =
+        let was = w.tree tree e in
+        record { tree = tree; told = e; same = subst (IsSameBut (is_aside roots) tree) (some_same was.0 now (sym was.1 ∙ told)) was.2 }
+
+-- ---- calls that stay aside, one after another
+
+pub stays_then : {A B : Type 0} (roots : Roots) (old mid new : State) (first : Result A Stop) (second : Result B Stop) → StaysAside roots old mid first → StaysAside roots mid new second → StaysAside roots old new second
+stays_then roots old mid new first second a b = record {
+  aside = aside_then roots old mid new a.aside b.aside;
+  ran_none = ran_none_then old mid new a.ran_none b.ran_none;
+  unrefused = b.unrefused;
+  cause = cause_then Fault old mid new first second a.ran_none.lasts.told a.cause b.cause;
+}
+
+abbrev right : {A : Type 0} → A → Result A Stop
+right value = Ok value
+
+-- it stopped for a reason of which the world knows nothing
+pub stays_as : {A B : Type 0} (roots : Roots) (old new : State) (first : A) (second : Result B Stop) → ((why : Stop) → IsErrOf second why → why ≡ NoMemory) → StaysAside roots old new (right first) → StaysAside roots old new second
+stays_as roots old new first second due a = record {
+  aside = a.aside;
+  ran_none = a.ran_none;
+  unrefused = λ refusal failed. let impossible : Refused refusal ≡ NoMemory = due (Refused refusal) failed in cc;
+  cause = cause_other old new (Ok first) second a.cause (λ failed. let impossible : Fault ≡ NoMemory = due Fault failed in cc);
+}
+
+abbrev stopped : {A : Type 0} → Stop → Result A Stop
+stopped stop = Err stop
+
+-- it stopped for the same reason
+pub stays_stop : {A B : Type 0} (roots : Roots) (old new : State) (stop : Stop) → StaysAside roots old new (stopped {A = A} stop) → StaysAside roots old new (stopped {A = B} stop)
+stays_stop {A = A} {B = B} roots old new stop a = record {
+  aside = a.aside;
+  ran_none = a.ran_none;
+  unrefused = λ refusal failed. a.unrefused refusal (back (Refused refusal) failed);
+  cause = record { later = a.cause.later; rose = λ failed. a.cause.rose (back Fault failed); steady = a.cause.steady; never = λ told is failed. a.cause.never told is (back Fault failed) };
+}
+  where
+    back : (why : Stop) → stopped {A = B} stop ≡ stopped why → stopped {A = A} stop ≡ stopped why
+    back why failed = let is : stop ≡ why = cc in ap (λ s. stopped {A = A} s) is
+
+-- the text that is staged is the link's
+pub with_text : (text said : List ℕ) (before after : Txn) (old new : State) (result : Result ℕ Stop) → said ≡ text
+    → Stages root_name.Dkms (node.Link said) before after old new result → Stages root_name.Dkms (node.Link text) before after old new result
+with_text text said before after old new result is s = subst (λ t. Stages root_name.Dkms (node.Link t) before after old new result) is s
+
+module _ (job : Job) (places : Places) (request : Option Request) (old mid : State) (begun : Txn) (b : BeginsTransaction job old mid (Ok begun)) where
+  abbrev roots : Roots
+  roots = job.host.roots
+
+  -- the directory of the packages is still there
+  pub still_root : AreApart roots → ForSome old.tree (λ tree. is_dir (node_at tree roots.dkms) ≡ true) → ForSome mid.tree (λ tree. is_dir (node_at tree begun.roots.dkms) ≡ true)
+  still_root apart root now told =
+      let was = before_aside roots old mid now told b.aside.ran_none.lasts.told b.aside.aside in
+      ap (λ (r : Roots). is_dir (node_at now r.dkms)) b.begun.roots ∙ ap is_dir (was.same roots.dkms (open_aside roots roots.dkms (dkms_open roots apart))) ∙ root was.tree was.told
+
+  some_same : (a b : Tree) → Some a ≡ Some b → a ≡ b
+  some_same a b e = cc
+
+  pub none_is_staged : ForSome mid.tree (IsStagedFor begun)
+  none_is_staged now told =
+      let was = before_aside roots old mid now told b.aside.ran_none.lasts.told b.aside.aside in
+      let cleared = b.cleared was.tree was.told in
+      (none_staged, subst (AreStagedFor begun none_staged) (some_same cleared.0 now (sym cleared.1 ∙ told)) cleared.2.staged)
+
+  module _ (staged : Txn) (new : State) (number : ℕ) (s : Stages root_name.Dkms (node.Link places.text) begun staged mid new (Ok number)) where
+    begun_aside : StaysAside roots mid new (Ok number)
+    begun_aside = subst (λ r. StaysAside r mid new (right number)) b.begun.roots s.aside
+
+    both : StaysAside roots old new (Ok number)
+    both = stays_then roots old mid new (Ok begun) (Ok number) b.aside begun_aside
+
+    -- the link is staged, and no journal is begun
+    pub link_staged : ForSome old.tree (λ tree. HasLinkStaged roots places new.tree)
+    link_staged tree told =
+        let cleared = b.cleared tree told in
+        let now = s.staged cleared.0 cleared.1 in
+        let holds = (now.2.staged none_staged cleared.2.staged).held root_name.Dkms in
+        record {
+          now = now.0;
+          told = now.1;
+          staged = ap (λ (r : Roots). node_at now.0 (staged_path r root_name.Dkms 0)) (sym b.begun.roots) ∙ holds.held 0 (node.Link places.text) refl;
+          unbegun = ap (λ (r : Roots). node_at now.0 (new_intent_path r)) (sym b.begun.roots)
+              ∙ now.2.same (new_intent_path begun.roots) (under-beside begun.roots.dkms (codes ".intent.new" ∷ []) (codes ".kb-staged" ∷ []))
+              ∙ cleared.2.unbegun (new_intent_path begun.roots) (under-self (new_intent_path begun.roots));
+        }
+
+    pub prepared : (txn : Txn) → txn.roots ≡ staged.roots → txn.intent.changes ≡ staged.intent.changes ++ changes_of_add places request → Prepares roots places request old new (Ok txn)
+    prepared txn same changes = record {
+      prepared = record {
+        roots_are = same ∙ ap (λ (t : Txn). t.roots) s.counted ∙ b.begun.roots;
+        changes = changes ∙ ap (λ (t : Txn). t.intent.changes ++ changes_of_add places request) s.counted ∙ ap (λ c. c ++ changes_of_add places request) b.begun.changes;
+      };
+      staged = link_staged;
+      aside = stays_as roots old new number (Ok txn) (λ why failed. let impossible : ◌≡◌ {A = Result Txn Stop} (Ok txn) (Err why) = failed in cc) both;
+    }
+
+    pub unprepared : Prepares roots places request old new (Err NoMemory)
+    unprepared = record {
+      prepared = tt;
+      staged = λ tree told. tt;
+      aside = stays_as roots old new number (Err NoMemory) (λ why failed. let same : NoMemory ≡ why = cc in sym same) both;
+    }
+
+  pub unstaged : (staged : Txn) (new : State) (stop : Stop) → Stages root_name.Dkms (node.Link places.text) begun staged mid new (Err stop) → Prepares roots places request old new (Err stop)
+  unstaged staged new stop s = record {
+    prepared = tt;
+    staged = λ tree told. tt;
+    aside = stays_stop roots old new stop (stays_then roots old mid new (Ok begun) (stopped {A = ℕ} stop) b.aside (subst (λ r. StaysAside r mid new (stopped {A = ℕ} stop)) b.begun.roots s.aside));
+  }
