@@ -1,5 +1,6 @@
-// The calls of the world in memory and of what works over it, none of which says what it did: nothing is promised of what
-// is printed, so no clause has to be carried from one call to the next. Nothing else calls that world.
+// The calls of the world in memory and of what works over it, none of which says what it did:
+// nothing is promised of what is printed, so no clause has to be carried from one call to the next.
+// Nothing else calls that world.
 ghost use Rattle.std.specs.Option.{ForSome};
 ghost use Rattle.std.specs.Prelude.{◌≡◌, true, IfOk, IsTrue};
 ghost use Rattle.kb_world.specs.Roots.{AreApart};
@@ -145,8 +146,8 @@ pub struct SceneWorld {
 }
 
 impl SceneWorld {
-    /// A world with these roots, whose children do what the rows say. A text with more effects than a world can have
-    /// finds no memory.
+    /// A world with these roots, whose children do what the rows say. A text with more effects than
+    /// a world can have finds no memory.
     pub fn new(
         alloc: Global,
         roots: &Roots,
@@ -209,7 +210,8 @@ impl SceneWorld {
         Ok(self.world.remove_dir(alloc, path)?)
     }
 
-    /// Runs the program's call with these words, while the calls with these numbers fail. No call is to fail behind it.
+    /// Runs the program's call with these words, while the calls with these numbers fail. No call
+    /// is to fail behind it.
     pub fn run(
         &mut self,
         alloc: Global,
@@ -224,8 +226,8 @@ impl SceneWorld {
         ended
     }
 
-    /// Runs the program's call over the world, which is halted, and goes on with what a crash leaves of it by the same
-    /// choice. No call is to fail behind it.
+    /// Runs the program's call over the world, which is halted, and goes on with what a crash leaves
+    /// of it by the same choice. No call is to fail behind it.
     pub fn halt(
         &mut self,
         alloc: Global,
