@@ -3,8 +3,8 @@
 use crate::error::LineError;
 use crate::store::print_stop;
 use crate::text::Page;
-use kb_conf::{Conf, Given, Patch, Scripts, Target, load_conf};
-use kb_memory::MemoryWorld;
+use crate::world_calls::SceneWorld;
+use kb_conf::{Conf, Given, Patch, Scripts, Target};
 use kb_world::{Path, Text, Texts};
 use std::alloc::{AllocError, Global};
 
@@ -96,12 +96,12 @@ fn print_fields(alloc: Global, page: &mut Page, conf: &Conf) -> Result<(), Alloc
 /// Adds the fields of the conf in the directory, or the refusal.
 pub fn print_conf(
     alloc: Global,
-    world: &mut MemoryWorld,
+    world: &mut SceneWorld,
     directory: &Path,
     given: &Given,
     page: &mut Page,
 ) -> Result<(), LineError> {
-    match load_conf(alloc, world, directory, None, given) {
+    match world.conf(alloc, directory, given) {
         Ok(conf) => Ok(print_fields(alloc, page, &conf)?),
         Err(stop) => print_stop(alloc, page, &stop),
     }

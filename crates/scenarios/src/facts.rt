@@ -3,8 +3,8 @@
 use crate::error::LineError;
 use crate::store::print_stop;
 use crate::text::Page;
-use kb_memory::MemoryWorld;
-use kb_token::{BootFacts, Layout, boot_facts, choose_layout};
+use crate::world_calls::SceneWorld;
+use kb_token::{BootFacts, Layout, choose_layout};
 use kb_world::{Roots, Text, TokenChoice};
 use std::alloc::{AllocError, Global};
 
@@ -53,12 +53,12 @@ fn print_found(alloc: Global, page: &mut Page, facts: &BootFacts) -> Result<(), 
 /// Adds the boot facts of the world, or the refusal.
 pub fn print_facts(
     alloc: Global,
-    world: &mut MemoryWorld,
+    world: &mut SceneWorld,
     roots: &Roots,
     choice: &TokenChoice,
     page: &mut Page,
 ) -> Result<(), LineError> {
-    match boot_facts(alloc, world, roots, choice) {
+    match world.facts(alloc, roots, choice) {
         Ok(facts) => Ok(print_found(alloc, page, &facts)?),
         Err(stop) => print_stop(alloc, page, &stop),
     }

@@ -22,6 +22,7 @@ mod show;
 mod stage;
 mod store;
 mod text;
+mod world_calls;
 
 use play::play;
 use std::io::{self, Read, Write};

@@ -1,41 +1,12 @@
 // A run of the program's call, and what it prints.
 
 use crate::error::LineError;
-use crate::line::{Halted, Target};
+use crate::line::Halted;
 use crate::text::{Page, Place};
-use kb_memory::{MemorySink, MemoryWorld};
-use kb_top::{Setting, start};
-use kb_walk::wipe;
+use crate::world_calls::{Ended, Failures, SceneWorld};
+use kb_top::Setting;
 use kb_world::{Path, Roots, Texts, WorldError};
 use std::alloc::{AllocError, Global};
-use std::mem;
-
-/// The calls that are to fail in the next run.
-#[derive(Drop)]
-pub struct Failures {
-    world: Vec<u64>,
-    out: Vec<u64>,
-    err: Vec<u64>,
-}
-
-impl Failures {
-    pub fn none(alloc: Global) -> Failures {
-        Failures {
-            world: Vec::new(alloc),
-            out: Vec::new(alloc),
-            err: Vec::new(alloc),
-        }
-    }
-
-    /// Adds calls that are to fail.
-    pub fn add(&mut self, target: Target, calls: &[u64]) -> Result<(), AllocError> {
-        match target {
-            Target::World => self.world.extend_from_slice(calls),
-            Target::Out => self.out.extend_from_slice(calls),
-            Target::Err => self.err.extend_from_slice(calls),
-        }
-    }
-}
 
 // Adds the lines of what was written, each behind the name of its stream.
 fn print_written(
@@ -72,86 +43,52 @@ fn print_run(
     alloc: Global,
     page: &mut Page,
     words: &Texts,
-    out: &[u8],
-    err: &[u8],
-    status: u8,
+    ended: &Ended,
 ) -> Result<(), AllocError> {
     print_words(alloc, page, words)?;
-    print_written(alloc, page, "out: ", out)?;
-    print_written(alloc, page, "err: ", err)?;
-    page.plain(&format!(in alloc; "status {status}\n")?)
+    print_written(alloc, page, "out: ", ended.out())?;
+    print_written(alloc, page, "err: ", ended.err())?;
+    page.plain(&format!(in alloc; "status {}\n", ended.status)?)
 }
 
 /// Runs the program's call with these words, over a world in which no call is to fail behind it.
 pub fn run(
     alloc: Global,
-    world: &mut MemoryWorld,
+    world: &mut SceneWorld,
     setting: &Setting,
     words: &Texts,
     failures: Failures,
     page: &mut Page,
 ) -> Result<(), AllocError> {
-    let Failures {
-        world: calls,
-        out: out_writes,
-        err: err_writes,
-    } = failures;
-    let mut out = MemorySink::new(alloc);
-    let mut err = MemorySink::new(alloc);
-    world.fail_at(calls);
-    out.fail_at(out_writes);
-    err.fail_at(err_writes);
-    let end = start(alloc, words.as_slice(), setting, world, &mut out, &mut err);
-    world.fail_at(Vec::new(alloc));
-    print_run(alloc, page, words, out.bytes(), err.bytes(), end.code())
+    let ended = world.run(alloc, words.as_slice(), setting, failures);
+    print_run(alloc, page, words, &ended)
 }
 
 /// Wipes the path in a world in which no call is to fail behind it, and says whether that was done.
 pub fn wipe_path(
     alloc: Global,
-    world: &mut MemoryWorld,
+    world: &mut SceneWorld,
     path: &Path,
     failures: Failures,
     page: &mut Page,
 ) -> Result<(), LineError> {
-    world.fail_at(failures.world);
-    let end = wipe(alloc, world, path);
-    world.fail_at(Vec::new(alloc));
-    match end {
+    match world.wipe(alloc, path, failures) {
         Ok(()) => Ok(page.plain("wiped\n")?),
         Err(WorldError::Failed) => Ok(page.plain("failed\n")?),
         Err(WorldError::NoMemory) => Err(LineError::Memory(AllocError)),
     }
 }
 
-// Puts what a crash leaves by the choice in place of the world.
-fn lose(
-    alloc: Global,
-    world: &mut MemoryWorld,
-    roots: &Roots,
-    choice: u64,
-) -> Result<(), AllocError> {
-    let none = MemoryWorld::new(alloc, roots.clone()?, Vec::new(alloc));
-    let lost = mem::replace(world, none).lose(alloc, choice)?;
-    *world = lost;
-    Ok(())
-}
-
 /// Runs the program's call with these words over a world that is halted, and goes on with what a crash leaves of it by the
 /// same choice. No call is to fail behind it.
 pub fn halt(
     alloc: Global,
-    world: &mut MemoryWorld,
+    world: &mut SceneWorld,
     setting: &Setting,
     roots: &Roots,
     halted: &Halted,
     page: &mut Page,
 ) -> Result<(), AllocError> {
-    let mut out = MemorySink::new(alloc);
-    let mut err = MemorySink::new(alloc);
-    let words = &halted.words;
-    world.halt_after(alloc, halted.after, halted.choice);
-    let end = start(alloc, words.as_slice(), setting, world, &mut out, &mut err);
-    lose(alloc, world, roots, halted.choice)?;
-    print_run(alloc, page, words, out.bytes(), err.bytes(), end.code())
+    let ended = world.halt(alloc, halted, setting, roots)?;
+    print_run(alloc, page, &halted.words, &ended)
 }

@@ -2,8 +2,8 @@
 
 use crate::error::LineError;
 use crate::text::{Page, Place};
-use kb_memory::MemoryWorld;
-use kb_world::{Area, Node, Path, Request, Roots, Text, World, is_index, is_name};
+use crate::world_calls::SceneWorld;
+use kb_world::{Area, Node, Path, Request, Roots, Text, is_index, is_name};
 use std::alloc::{AllocError, Global};
 
 /// Adds a path that is a line's last field.
@@ -43,18 +43,14 @@ fn print_node(alloc: Global, page: &mut Page, path: &Path, node: &Node) -> Resul
     }
 }
 
-// The entries of a directory, the last first.
+// The entries of a directory, the last first; none where no directory stands.
 fn push_entries(
     alloc: Global,
-    world: &mut MemoryWorld,
+    world: &mut SceneWorld,
     directory: &Path,
     waiting: &mut Vec<Path>,
 ) -> Result<(), LineError> {
-    match world.node(directory) {
-        Some(Node::Dir) => {}
-        _ => return Ok(()),
-    }
-    let names = world.list(alloc, directory)?;
+    let names = world.names(alloc, directory)?;
     for name in names.iter().rev() {
         if is_name(name.as_str()) {
             waiting.push(directory.child(alloc, name.as_str())?)?;
@@ -66,7 +62,7 @@ fn push_entries(
 /// Adds what stands at and below the path, in the order of paths.
 pub fn print_tree(
     alloc: Global,
-    world: &mut MemoryWorld,
+    world: &mut SceneWorld,
     start: Path,
     page: &mut Page,
 ) -> Result<(), LineError> {
@@ -145,7 +141,7 @@ pub fn print_index(page: &mut Page, roots: &Roots, path: &Path) -> Result<(), Al
 /// Adds the requests behind the first so many, and answers how many there are.
 pub fn print_requests(
     alloc: Global,
-    world: &MemoryWorld,
+    world: &SceneWorld,
     told: usize,
     page: &mut Page,
 ) -> Result<usize, AllocError> {

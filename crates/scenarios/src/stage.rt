@@ -9,12 +9,12 @@ use crate::error::{BadLine, LineError};
 use crate::facts::print_facts;
 use crate::journal::{print_journal, print_journal_bytes};
 use crate::line::{Action, Show};
-use crate::run::{Failures, halt, run, wipe_path};
+use crate::run::{halt, run, wipe_path};
 use crate::scene::{Scene, Step, usual_setting};
 use crate::show::{print_index, print_requests, print_tree};
 use crate::store::{print_claimant, print_store};
 use crate::text::Page;
-use kb_memory::{MemoryWorld, has_few_effects};
+use crate::world_calls::{Failures, SceneWorld};
 use kb_top::{Setting, SettingError, host_of};
 use kb_world::{EffectRow, Host};
 use std::alloc::{AllocError, Global};
@@ -49,19 +49,10 @@ fn machine(alloc: Global, setting: &Setting) -> Result<Host, AllocError>
     }
 }
 
-// It says nothing of the world that it makes, so that nothing has to be carried along. A text with more effects than a
-// world can have finds no memory.
-fn world_of(alloc: Global, host: &Host, rows: Vec<EffectRow>) -> Result<MemoryWorld, AllocError> {
-    if !has_few_effects(&rows) {
-        return Err(AllocError);
-    }
-    Ok(MemoryWorld::new(alloc, host.roots.clone()?, rows))
-}
-
 // Prints what the world has.
 fn print(
     alloc: Global,
-    world: &mut MemoryWorld,
+    world: &mut SceneWorld,
     host: &Host,
     progress: &mut Progress,
     show: Show,
@@ -93,7 +84,7 @@ fn print(
 // Does what a line says.
 fn act(
     alloc: Global,
-    world: &mut MemoryWorld,
+    world: &mut SceneWorld,
     setting: &Setting,
     host: &Host,
     progress: &mut Progress,
@@ -127,7 +118,7 @@ fn act(
 
 fn act_all(
     alloc: Global,
-    world: &mut MemoryWorld,
+    world: &mut SceneWorld,
     setting: &Setting,
     host: &Host,
     steps: Vec<Step>,
@@ -153,11 +144,11 @@ fn set_stage(
     alloc: Global,
     setting: &Setting,
     rows: Vec<EffectRow>,
-) -> Result<(MemoryWorld, Host), AllocError>
+) -> Result<(SceneWorld, Host), AllocError>
     ensures { IfOk result (λ made. AreApart made.1.roots) }
 {
     let host = machine(alloc, setting)?;
-    Ok((world_of(alloc, &host, rows)?, host))
+    Ok((SceneWorld::new(alloc, &host.roots, rows)?, host))
 }
 
 /// Plays a scene, and prints on the page what its lines print.

@@ -1,18 +1,14 @@
 // What is printed of the store below the dkms root.
-ghost use Rattle.std.specs.Option.{ForSome};
-ghost use Rattle.std.specs.Prelude.{◌≡◌, true};
 ghost use Rattle.kb_world.specs.Roots.{AreApart};
-ghost use Rattle.kb_world.specs.Tree.{node_at, is_dir};
-ghost use Rattle.kb_memory.specs.World.{state_of};
 
 use crate::ask::{joined, print_places};
 use crate::error::LineError;
 use crate::line::Claimed;
 use crate::text::Page;
-use kb_memory::MemoryWorld;
+use crate::world_calls::SceneWorld;
 use kb_store::{Build, Store};
-use kb_walk::{Met, walk_all};
-use kb_world::{Node, Refusal, Roots, Spot, Stop, Text};
+use kb_walk::Met;
+use kb_world::{Refusal, Roots, Spot, Stop, Text};
 use std::alloc::{AllocError, Global};
 
 /// Adds why a call stopped.
@@ -101,74 +97,30 @@ fn print_parts(alloc: Global, page: &mut Page, store: &Store) -> Result<(), Allo
     Ok(())
 }
 
-// What stands below the dkms root, where that is a directory.
-fn walk_store(
-    alloc: Global,
-    world: &mut MemoryWorld,
-    roots: &Roots,
-) -> Result<Vec<Met>, LineError> {
-    let mut all = Vec::new(alloc);
-    match world.node(&roots.dkms) {
-        Some(Node::Dir) => {}
-        _ => return Ok(all),
-    }
-    for met in walk_all(alloc, world, roots, &roots.dkms)?.as_slice() {
-        all.push(Met {
-            path: met.path.clone()?,
-            kind: met.kind,
-        })?;
-    }
-    Ok(all)
-}
-
 fn print_whole(
     alloc: Global,
-    world: &mut MemoryWorld,
+    world: &mut SceneWorld,
     roots: &Roots,
     store: &Store,
     page: &mut Page,
 ) -> Result<(), LineError> {
     print_parts(alloc, page, store)?;
-    for met in &walk_store(alloc, world, roots)? {
+    for met in world.walk(alloc, roots)?.as_slice() {
         print_chest(alloc, page, store, roots, met)?;
     }
     Ok(())
 }
 
-// The store as it is read inside a command, once it was read without a refusal.
-fn read_again(alloc: Global, world: &mut MemoryWorld, roots: &Roots) -> Result<Store, Stop>
-    requires apart { AreApart roots.now }
-    requires root { ForSome (state_of world.old).tree (λ tree. is_dir (node_at tree roots.now.dkms) ≡ true) }
-{
-    let _first = Store::read(alloc, world, roots)?;
-    Store::reread(alloc, world, roots)
-}
-
-// The store, or why it can't be read.
-fn read_store(alloc: Global, world: &mut MemoryWorld, roots: &Roots) -> Result<Store, Stop>
-    requires { AreApart roots.now }
-{
-    match world.node(&roots.dkms) {
-        Some(Node::Dir) => {}
-        _ => {
-            return Err(Stop::Refused(Refusal::NoRoot {
-                path: roots.dkms.clone()?,
-            }));
-        }
-    }
-    read_again(alloc, world, roots)
-}
-
 /// Adds the added packages, the builds with their places, the installed versions and the kept files, or the refusal.
 pub fn print_store(
     alloc: Global,
-    world: &mut MemoryWorld,
+    world: &mut SceneWorld,
     roots: &Roots,
     page: &mut Page,
 ) -> Result<(), LineError>
     requires { AreApart roots.now }
 {
-    match read_store(alloc, world, roots) {
+    match world.store(alloc, roots) {
         Ok(store) => print_whole(alloc, world, roots, &store, page),
         Err(stop) => print_stop(alloc, page, &stop),
     }
@@ -203,14 +155,14 @@ fn print_claim(
 /// Adds who else claims a file, or the refusal of the store.
 pub fn print_claimant(
     alloc: Global,
-    world: &mut MemoryWorld,
+    world: &mut SceneWorld,
     roots: &Roots,
     claimed: &Claimed,
     page: &mut Page,
 ) -> Result<(), LineError>
     requires { AreApart roots.now }
 {
-    match read_store(alloc, world, roots) {
+    match world.store(alloc, roots) {
         Ok(store) => Ok(print_claim(alloc, page, &store, claimed)?),
         Err(stop) => print_stop(alloc, page, &stop),
     }

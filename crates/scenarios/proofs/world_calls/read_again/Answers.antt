@@ -2,7 +2,7 @@
 use Rattle.std.proofs.Common.{sym, ◌∙◌}
 use Rattle.kb_world.specs.Public.{public_tree}
 use Rattle.kb_store.proofs.ReadLaws.{read_is_sound}
-use Rattle.scenarios.proofs.store.read_again.Goals as goal
+use Rattle.scenarios.proofs.world_calls.read_again.Goals as goal
 
 pub reread-requires-clause-root : goal.reread-requires-clause-root
 reread-requires-clause-root c now told = c.requires.root now (sym c.in_ok-_first.ensures.unchanged.tree ∙ told)

@@ -4,7 +4,7 @@ use Rattle.std.proofs.lemmas.List.{nil_from_length}
 use Rattle.kb_memory.specs.World.{tree_of}
 use Rattle.kb_world.specs.Path.{Path}
 use Rattle.kb_world.specs.Tree.{Tree, IsEmptyDir, node_at, is_dir, children}
-use Rattle.scenarios.proofs.edit.is_empty_dir.Goals as goal
+use Rattle.scenarios.proofs.world_calls.is_empty_dir.Goals as goal
 
 -- a directory whose list is empty has no entries, and the list changed nothing
 listed_empty : (before after : Tree) (path : Path) (names : List (List ℕ)) → Some after ≡ Some before → names ≡ children before path → names ≡ []
