@@ -39,7 +39,7 @@ use Rattle.kb_machine.proofs.RestLaws.{ready_at_rest, rests_public}
 use Rattle.kb_machine.proofs.TransactLaws.{cleaned_public, cleaned_foreign}
 use Rattle.kb_walk.proofs.WipeCalls.{HasFormedTree}
 use Rattle.kb_intent.specs.Finish.{HasJournal, KeepsOpening}
-use Rattle.kb_intent.specs.Recover.{Found, HasDamagedJournal, Recovers}
+use Rattle.kb_intent.specs.Recover.{FoundJournal, HasDamagedJournal, Recovers}
 use Rattle.kb_words.specs.Words.{Word}
 use Rattle.kb_top.specs.Machine.{words_of, requests_found, behind, machine, outcome_of, damaged_outcome}
 use Rattle.kb_top.specs.Serve.{Serves}
@@ -74,7 +74,7 @@ record IsReadied (roots : Roots) (old mid : State) (tree ready : Tree) (found : 
   ran : mid.ran ≡ old.ran ++ requests_found roots old.script found tree
   words : words_found said ≡ words_of found
 
-readied : (roots : Roots) (old mid : State) (tree ready : Tree) (found : Option Intent) (said : Option Recovered) → old.tree ≡ Some tree → IsReady roots old.script tree ready found → Found roots old mid tree said
+readied : (roots : Roots) (old mid : State) (tree ready : Tree) (found : Option Intent) (said : Option Recovered) → old.tree ≡ Some tree → IsReady roots old.script tree ready found → FoundJournal roots old mid tree said
     → IsReadied roots old mid tree ready found said
 readied roots old mid tree ready found None told is f =
     let r = ready_at_rest roots old.script tree ready found f.bare is in
@@ -116,7 +116,7 @@ left_rooted roots old mid rooted lasts now told = let was = was_told old.tree mi
 pub left_bare : (roots : Roots) (old mid : State) (said : Option Recovered) → Recovers roots old mid (Ok said) → ForSome mid.tree (λ tree. node_at tree (intent_path roots) ≡ None)
 left_bare roots old mid said r now told = let was = was_told old.tree mid.tree now r.lasts.told told in by was.0 was.1 said (r.found was.0 was.1)
   where
-    by : (was : Tree) → old.tree ≡ Some was → (s : Option Recovered) → Found roots old mid was s → node_at now (intent_path roots) ≡ None
+    by : (was : Tree) → old.tree ≡ Some was → (s : Option Recovered) → FoundJournal roots old mid was s → node_at now (intent_path roots) ≡ None
     by was before None f = ap (λ t. node_at t (intent_path roots)) (some_same now was (sym told ∙ f.unchanged.tree ∙ before)) ∙ f.bare
     by was before (Some recovered) f =
         let ended : Tree = done roots old.script f.intent.changes was in
@@ -185,7 +185,7 @@ module _ (host : Host) (words : List Word) (old mid new : State) (said : Option 
   undamaged : (tree : Tree) → old.tree ≡ Some tree → HasDamagedJournal host.roots tree → ⊥
   undamaged tree told damage = by said (r.found tree told)
     where
-      by : (s : Option Recovered) → Found host.roots old mid tree s → ⊥
+      by : (s : Option Recovered) → FoundJournal host.roots old mid tree s → ⊥
       by None f = damage.stands f.bare
       by (Some recovered) f = damage.no_journal f.intent f.stood
 

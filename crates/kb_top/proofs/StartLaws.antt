@@ -17,6 +17,7 @@ use Rattle.kb_top.specs.Tell.{SaysFront}
 use Rattle.kb_top.specs.Setting.{IsPathOf, IsBase, with_boot, HasBoot, IsHostOf, IsBadBase, IsBadRoot, IsBadBootFor, IsBadBoot}
 use Rattle.kb_top.specs.Start.{IsSetAside, Starts}
 use Rattle.kb_top.proofs.RunLaws.{runs_wanting}
+use Rattle.kb_top.proofs.SettingLaws.{good_or_bad}
 
 same : (text : List ℕ) (a b : Path) → IsPathOf text a → IsPathOf text b → a ≡ b
 same text a b is other = same_path a b is.0 other.0 (is.1 ∙ sym other.1)
@@ -42,7 +43,7 @@ no_boot (Some text) base roots is apart (inl none) = none is.0 is.1
 no_boot (Some text) base roots is apart (inr found) =
     found.2 (subst AreApart (is.2 ∙ ap (λ p. with_boot p (roots_under base)) (same text is.0 found.0 is.1 found.1)) apart)
 
-one_roots : (setting : Setting) (a b : Host) → IsHostOf setting a → IsHostOf setting b → a.roots ≡ b.roots
+pub one_roots : (setting : Setting) (a b : Host) → IsHostOf setting a → IsHostOf setting b → a.roots ≡ b.roots
 one_roots setting a b is other =
     one_boot setting.boot is.base a.roots b.roots is.roots_are
     (subst (λ base. HasBoot setting.boot base b.roots) (one_base setting.root other.base is.base other.base_is is.base_is) other.roots_are)
@@ -122,3 +123,13 @@ starts_wanting setting words world out old_err new_err says = record {
   bad_root = λ bad. set_aside_wanting end.BadRoot bad_root_line world out old_err new_err says;
   bad_boot = λ bad. set_aside_wanting end.BadBoot bad_boot_line world out old_err new_err says;
 }
+
+-- whatever the setting is, the world keeps its roots
+pub starts_rooted : (setting : Setting) (words : List Word) (old new : Outside) (result : End) → Starts setting words old new result → new.world.roots ≡ old.world.roots
+starts_rooted setting words old new result s = elim (good_or_bad setting) [
+  | inl good ↦ (s.good good.0 good.1).lasts.roots
+  | inr bad ↦ elim bad [
+    | inl root ↦ ap (λ (w : State). w.roots) (s.bad_root root).world
+    | inr boot ↦ ap (λ (w : State). w.roots) (s.bad_boot boot).world
+  ]
+]
