@@ -41,7 +41,7 @@ use Rattle.kb_walk.proofs.WipeCalls.{HasFormedTree}
 use Rattle.kb_intent.specs.Finish.{HasJournal, KeepsOpening}
 use Rattle.kb_intent.specs.Recover.{FoundJournal, HasDamagedJournal, Recovers}
 use Rattle.kb_words.specs.Words.{Word}
-use Rattle.kb_top.specs.Machine.{words_of, requests_found, behind, machine, outcome_of, damaged_outcome}
+use Rattle.kb_top.specs.Machine.{journal_words, requests_found, behind, machine, outcome_of, damaged_outcome}
 use Rattle.kb_top.specs.Serve.{Serves}
 use Rattle.kb_top.specs.Telling.{words_found}
 
@@ -72,7 +72,7 @@ record IsReadied (roots : Roots) (old mid : State) (tree ready : Tree) (found : 
   public : public_tree roots now ≡ public_tree roots ready
   foreign : foreign_tree roots now ≡ foreign_tree roots ready
   ran : mid.ran ≡ old.ran ++ requests_found roots old.script found tree
-  words : words_found said ≡ words_of found
+  words : words_found said ≡ journal_words found
 
 readied : (roots : Roots) (old mid : State) (tree ready : Tree) (found : Option Intent) (said : Option Recovered) → old.tree ≡ Some tree → IsReady roots old.script tree ready found → FoundJournal roots old mid tree said
     → IsReadied roots old mid tree ready found said
@@ -84,7 +84,7 @@ readied roots old mid tree ready found None told is f =
       public = ap (public_tree roots) (sym r.0);
       foreign = ap (foreign_tree roots) (sym r.0);
       ran = f.unchanged.ran_none.ran ∙ sym (append-nil old.ran) ∙ ap (λ o. old.ran ++ requests_found roots old.script o tree) (sym r.1);
-      words = ap words_of (sym r.1);
+      words = ap journal_words (sym r.1);
     }
 readied roots old mid tree ready found (Some recovered) told is f =
     let r = ready_by roots old.script tree ready found f.intent f.stood is in
@@ -95,7 +95,7 @@ readied roots old mid tree ready found (Some recovered) told is f =
       public = cleaned_public roots ended ∙ ap (public_tree roots) (sym r.0);
       foreign = cleaned_foreign roots ended ∙ ap (foreign_tree roots) (sym r.0);
       ran = f.committed.ran ∙ ap (λ o. old.ran ++ requests_found roots old.script o tree) (sym r.1);
-      words = ap Some f.words ∙ ap words_of (sym r.1);
+      words = ap Some f.words ∙ ap journal_words (sym r.1);
     }
 
 -- no journal is left
@@ -155,7 +155,7 @@ module _ (host : Host) (words : List Word) (old mid new : State) (said : Option 
     done_there = machine host mid.script words (words_found said) (public_tree host.roots there.now) (foreign_tree host.roots there.now)
 
     abbrev right : Outcome
-    right = machine host old.script words (words_of found) (public_tree host.roots ready) (foreign_tree host.roots ready)
+    right = machine host old.script words (journal_words found) (public_tree host.roots ready) (foreign_tree host.roots ready)
 
     same_outcome : done_there ≡ right
     same_outcome = λ i. machine host (r.lasts.script i) words (there.words i) (there.public i) (there.foreign i)

@@ -103,8 +103,8 @@ machine host script words found = telling found (is_recovery (reading words)) th
 -- ---- the whole call, which begins with a recovery
 
 -- the words of the journal that was found
-abbrev pub words_of : Option Intent → Option (List Word)
-words_of found = option_map (λ (intent : Intent). intent.words) found
+abbrev pub journal_words : Option Intent → Option (List Word)
+journal_words found = option_map (λ (intent : Intent). intent.words) found
 
 -- the requests of its children over the tree in which it stood
 abbrev pub requests_found : Roots → Script → Option Intent → Tree → List Request
@@ -118,7 +118,7 @@ behind requests outcome = record outcome { requests = requests ++ outcome.reques
 -- What words do to a tree: the children of the journal run, and then the machine goes on from the tree that is ready.
 abbrev pub outcome_of : Host → Script → List Word → Tree → Tree → Option Intent → Outcome
 outcome_of host script words tree ready found =
-    behind (requests_found host.roots script found tree) (machine host script words (words_of found) (public_tree host.roots ready) (foreign_tree host.roots ready))
+    behind (requests_found host.roots script found tree) (machine host script words (journal_words found) (public_tree host.roots ready) (foreign_tree host.roots ready))
 
 -- they are refused where what stands at the journal's path is damaged
 abbrev pub damaged_outcome : Roots → Tree → Outcome
