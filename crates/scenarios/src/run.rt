@@ -4,8 +4,7 @@ use crate::error::LineError;
 use crate::line::Halted;
 use crate::text::{Page, Place};
 use crate::world_calls::{Ended, Failures, SceneWorld};
-use kb_top::Setting;
-use kb_world::{Path, Roots, Texts, WorldError};
+use kb_world::{Path, Texts, WorldError};
 use std::alloc::{AllocError, Global};
 
 // Adds the lines of what was written, each behind the name of its stream.
@@ -55,12 +54,11 @@ fn print_run(
 pub fn run(
     alloc: Global,
     world: &mut SceneWorld,
-    setting: &Setting,
     words: &Texts,
     failures: Failures,
     page: &mut Page,
 ) -> Result<(), AllocError> {
-    let ended = world.run(alloc, words.as_slice(), setting, failures);
+    let ended = world.run(alloc, words.as_slice(), failures);
     print_run(alloc, page, words, &ended)
 }
 
@@ -84,11 +82,9 @@ pub fn wipe_path(
 pub fn halt(
     alloc: Global,
     world: &mut SceneWorld,
-    setting: &Setting,
-    roots: &Roots,
     halted: &Halted,
     page: &mut Page,
 ) -> Result<(), AllocError> {
-    let ended = world.halt(alloc, halted, setting, roots)?;
+    let ended = world.halt(alloc, halted)?;
     print_run(alloc, page, &halted.words, &ended)
 }

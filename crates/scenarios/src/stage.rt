@@ -1,6 +1,8 @@
 // A scene is played: its world is made, and its lines are done one by one.
-ghost use Rattle.std.specs.Prelude.{IfOk};
+ghost use Rattle.std.specs.Prelude.{◌≡◌, IfOk};
 ghost use Rattle.kb_world.specs.Roots.{AreApart};
+ghost use Rattle.kb_world.specs.declared.job.Host.{Host as AHost};
+ghost use Rattle.kb_top.specs.Setting.{IsHostOf};
 
 use crate::ask::{given_for, print_answer};
 use crate::conf::print_conf;
@@ -40,7 +42,9 @@ fn usual_machine(alloc: Global) -> Result<Host, AllocError>
 
 // The machine that the setting tells of; the usual one where it tells of none.
 fn machine(alloc: Global, setting: &Setting) -> Result<Host, AllocError>
-    ensures { IfOk result (λ host. AreApart host.roots) }
+    ensures apart { IfOk result (λ host. AreApart host.roots) }
+    ensures told { IfOk result (λ host. (other : AHost) → IsHostOf setting.now other
+        → host.roots ≡ other.roots) }
 {
     match host_of(alloc, setting) {
         Ok(host) => Ok(host),
@@ -85,7 +89,6 @@ fn print(
 fn act(
     alloc: Global,
     world: &mut SceneWorld,
-    setting: &Setting,
     host: &Host,
     progress: &mut Progress,
     action: Action,
@@ -101,7 +104,7 @@ fn act(
         Action::Fail { target, calls } => Ok(progress.failures.add(target, &calls)?),
         Action::Run(words) => {
             let failures = mem::replace(&mut progress.failures, Failures::none(alloc));
-            Ok(run(alloc, world, setting, &words, failures, page)?)
+            Ok(run(alloc, world, &words, failures, page)?)
         }
         Action::Wipe(path) => {
             let failures = mem::replace(&mut progress.failures, Failures::none(alloc));
@@ -109,7 +112,7 @@ fn act(
         }
         Action::Halt(halted) => {
             progress.failures = Failures::none(alloc);
-            Ok(halt(alloc, world, setting, &host.roots, &halted, page)?)
+            Ok(halt(alloc, world, &halted, page)?)
         }
         Action::Show(show) => print(alloc, world, host, progress, show, page),
         Action::Ask(ask) => print_answer(alloc, page, &ask, &given_for(alloc, host)?),
@@ -119,7 +122,6 @@ fn act(
 fn act_all(
     alloc: Global,
     world: &mut SceneWorld,
-    setting: &Setting,
     host: &Host,
     steps: Vec<Step>,
     page: &mut Page,
@@ -131,7 +133,7 @@ fn act_all(
         told: 0,
     };
     for Step { line, action } in steps {
-        match act(alloc, world, setting, host, &mut progress, action, page) {
+        match act(alloc, world, host, &mut progress, action, page) {
             Ok(()) => {}
             Err(cause) => return Err(BadLine { line, cause }),
         }
@@ -142,13 +144,13 @@ fn act_all(
 // The world and the machine of a scene.
 fn set_stage(
     alloc: Global,
-    setting: &Setting,
+    setting: Setting,
     rows: Vec<EffectRow>,
 ) -> Result<(SceneWorld, Host), AllocError>
     ensures { IfOk result (λ made. AreApart made.1.roots) }
 {
-    let host = machine(alloc, setting)?;
-    Ok((SceneWorld::new(alloc, &host.roots, rows)?, host))
+    let host = machine(alloc, &setting)?;
+    Ok((SceneWorld::new(alloc, setting, &host.roots, rows)?, host))
 }
 
 /// Plays a scene, and prints on the page what its lines print.
@@ -159,8 +161,8 @@ pub fn play_scene(alloc: Global, scene: Scene, page: &mut Page) -> Result<(), Ba
         steps,
         ..
     } = scene;
-    match set_stage(alloc, &setting, rows) {
-        Ok((mut world, host)) => act_all(alloc, &mut world, &setting, &host, steps, page),
+    match set_stage(alloc, setting, rows) {
+        Ok((mut world, host)) => act_all(alloc, &mut world, &host, steps, page),
         Err(error) => Err(BadLine {
             line: 0,
             cause: LineError::Memory(error),

@@ -2,10 +2,12 @@
 // nothing is promised of what is printed, so no clause has to be carried from one call to the next.
 // Nothing else calls that world.
 ghost use Rattle.std.specs.Option.{ForSome};
-ghost use Rattle.std.specs.Prelude.{◌≡◌, true, IfOk, IsTrue};
+ghost use Rattle.std.specs.Prelude.{◌≡◌, ◌≤◌, ◌^◌, true, length, IfOk, IsTrue};
 ghost use Rattle.kb_world.specs.Roots.{AreApart};
 ghost use Rattle.kb_world.specs.Tree.{IsEmptyDir, node_at, is_dir};
+ghost use Rattle.kb_world.specs.declared.job.Host.{Host};
 ghost use Rattle.kb_memory.specs.World.{state_of, tree_of};
+ghost use Rattle.kb_top.specs.Setting.{IsHostOf};
 
 use crate::error::LineError;
 use crate::line::{Halted, Target};
@@ -74,7 +76,7 @@ fn sink(alloc: Global, calls: Vec<u64>) -> MemorySink {
     sink
 }
 
-// Runs the program's call with these words, and answers its status.
+// Runs the program's call with these words, and answers its status. The world keeps its roots.
 fn status_of(
     alloc: Global,
     words: &[Text],
@@ -82,7 +84,11 @@ fn status_of(
     world: &mut MemoryWorld,
     out: &mut MemorySink,
     err: &mut MemorySink,
-) -> u8 {
+) -> u8
+    requires { (host : Host) → IsHostOf setting.now host
+        → (state_of world.old).roots ≡ host.roots }
+    ensures { (state_of world.new).roots ≡ (state_of world.old).roots }
+{
     start(alloc, words, setting, world, out, err).code()
 }
 
@@ -94,7 +100,11 @@ fn play(
     world: &mut MemoryWorld,
     out_writes: Vec<u64>,
     err_writes: Vec<u64>,
-) -> Ended {
+) -> Ended
+    requires { (host : Host) → IsHostOf setting.now host
+        → (state_of world.old).roots ≡ host.roots }
+    ensures { (state_of world.new).roots ≡ (state_of world.old).roots }
+{
     let mut out = sink(alloc, out_writes);
     let mut err = sink(alloc, err_writes);
     let status = status_of(alloc, words, setting, world, &mut out, &mut err);
@@ -107,7 +117,10 @@ fn lose(
     world: &mut MemoryWorld,
     roots: &Roots,
     choice: u64,
-) -> Result<(), AllocError> {
+) -> Result<(), AllocError>
+    requires { (state_of world.old).roots ≡ roots.now }
+    ensures { (state_of world.new).roots ≡ (state_of world.old).roots }
+{
     let none = MemoryWorld::new(alloc, roots.clone()?, Vec::new(alloc));
     let lost = mem::replace(world, none).lose(alloc, choice)?;
     *world = lost;
@@ -122,7 +135,8 @@ fn is_dir(world: &MemoryWorld, path: &Path) -> bool
 
 // Whether an empty directory stands at the path.
 fn is_empty_dir(alloc: Global, world: &mut MemoryWorld, path: &Path) -> Result<bool, WorldError>
-    ensures { IfOk result (λ empty. IsTrue empty → IsEmptyDir (tree_of world.new) path.now) }
+    ensures empty { IfOk result (λ empty. IsTrue empty → IsEmptyDir (tree_of world.new) path.now) }
+    ensures roots { (state_of world.new).roots ≡ (state_of world.old).roots }
 {
     if !is_dir(world, path) {
         return Ok(false);
@@ -134,15 +148,21 @@ fn is_empty_dir(alloc: Global, world: &mut MemoryWorld, path: &Path) -> Result<b
 fn read_again(alloc: Global, world: &mut MemoryWorld, roots: &Roots) -> Result<Store, Stop>
     requires apart { AreApart roots.now }
     requires root { ForSome (state_of world.old).tree (λ tree. is_dir (node_at tree roots.now.dkms) ≡ true) }
+    ensures { (state_of world.new).roots ≡ (state_of world.old).roots }
 {
     let _first = Store::read(alloc, world, roots)?;
     Store::reread(alloc, world, roots)
 }
 
-/// The world of a scene.
+/// The world of a scene, and the setting that the program is told in it. The world's roots are those
+/// of which the setting tells, if it tells of any.
 #[derive(Drop)]
 pub struct SceneWorld {
     world: MemoryWorld,
+    roots: Roots,
+    setting: Setting,
+    ghost rooted: { (state_of world).roots ≡ roots },
+    ghost told: { (host : Host) → IsHostOf setting host → roots ≡ host.roots },
 }
 
 impl SceneWorld {
@@ -150,14 +170,19 @@ impl SceneWorld {
     /// a world can have finds no memory.
     pub fn new(
         alloc: Global,
+        setting: Setting,
         roots: &Roots,
         rows: Vec<EffectRow>,
-    ) -> Result<SceneWorld, AllocError> {
+    ) -> Result<SceneWorld, AllocError>
+        requires { (host : Host) → IsHostOf setting host → roots.now ≡ host.roots }
+    {
         if !has_few_effects(&rows) {
             return Err(AllocError);
         }
         Ok(SceneWorld {
             world: MemoryWorld::new(alloc, roots.clone()?, rows),
+            roots: roots.clone()?,
+            setting,
         })
     }
 
@@ -212,41 +237,29 @@ impl SceneWorld {
 
     /// Runs the program's call with these words, while the calls with these numbers fail. No call
     /// is to fail behind it.
-    pub fn run(
-        &mut self,
-        alloc: Global,
-        words: &[Text],
-        setting: &Setting,
-        failures: Failures,
-    ) -> Ended {
+    pub fn run(&mut self, alloc: Global, words: &[Text], failures: Failures) -> Ended {
         let Failures { world, out, err } = failures;
         self.world.fail_at(world);
-        let ended = play(alloc, words, setting, &mut self.world, out, err);
+        let ended = play(alloc, words, &self.setting, &mut self.world, out, err);
         self.world.fail_at(Vec::new(alloc));
         ended
     }
 
     /// Runs the program's call over the world, which is halted, and goes on with what a crash leaves
     /// of it by the same choice. No call is to fail behind it.
-    pub fn halt(
-        &mut self,
-        alloc: Global,
-        halted: &Halted,
-        setting: &Setting,
-        roots: &Roots,
-    ) -> Result<Ended, AllocError> {
+    pub fn halt(&mut self, alloc: Global, halted: &Halted) -> Result<Ended, AllocError> {
         let words = halted.words.as_slice();
         self.world.halt_after(alloc, halted.after, halted.choice);
         let none = Vec::new(alloc);
         let ended = play(
             alloc,
             words,
-            setting,
+            &self.setting,
             &mut self.world,
             none,
             Vec::new(alloc),
         );
-        lose(alloc, &mut self.world, roots, halted.choice)?;
+        lose(alloc, &mut self.world, &self.roots, halted.choice)?;
         Ok(ended)
     }
 

@@ -13,8 +13,8 @@ listed_empty before after path names same listed none directory =
     let kept : after ≡ before = cc in
     subst (λ tree. IsEmptyDir tree path) (sym kept) (record { directory = directory; empty = sym listed ∙ none })
 
-pub returns : goal.returns
-returns c empty =
+pub returns-clause-empty : goal.returns-clause-empty
+returns-clause-empty c empty =
     let names = c.in_ok-list.field-0 in
     let none : vec_len names ≡ 0 = eqb-true (vec_len names) 0 (sym c.is_empty.ensures ∙ empty) in
     let listed = c.in_ok-list.ensures in
