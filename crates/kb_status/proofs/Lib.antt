@@ -1,0 +1,4 @@
+pub mod KeptLaws
+pub mod OrderLaws
+pub mod SortLaws
+pub mod LineLaws

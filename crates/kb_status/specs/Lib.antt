@@ -1,0 +1,5 @@
+pub mod Filter
+pub mod Line
+pub mod Lines
+pub mod Order
+pub mod Status
