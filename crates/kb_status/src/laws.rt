@@ -7,8 +7,9 @@ ghost use Rattle.std.specs.List.{Contains};
 ghost use Rattle.kb_world.specs.declared.job.Filter.{Filter};
 ghost use Rattle.kb_store.specs.declared.store.Store.{Store};
 ghost use Rattle.kb_status.specs.declared.line.Line.{Line};
+ghost use Rattle.kb_status.specs.LineOf.{IsLineOf};
 ghost use Rattle.kb_status.specs.Order.{line_order};
-ghost use Rattle.kb_status.specs.Status.{IsStatus, IsLineOf};
+ghost use Rattle.kb_status.specs.Status.{IsStatus};
 
 /// A line stands in a status exactly where it is that of an added version that no build is of,
 /// wanted by a filter that names no kernel and no architecture, or that of a build that the filter
