@@ -1,0 +1,5 @@
+pub mod NextLaws
+pub mod OrderLaws
+pub mod QueueLaws
+pub mod RowLaws
+pub mod WebLaws
