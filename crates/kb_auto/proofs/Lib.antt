@@ -1,5 +1,6 @@
 pub mod NextLaws
 pub mod OrderLaws
+pub mod PlacedLaws
 pub mod QueueLaws
 pub mod RowLaws
 pub mod WebLaws

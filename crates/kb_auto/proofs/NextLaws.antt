@@ -1,18 +1,17 @@
 -- Laws of the definition of the order: what is placed next, and what a module waits for then.
-use Rattle.std.proofs.Common.{◌≡◌, ◌≢◌, ℕ, zero, suc, ◌+◌, ◌<◌, ◌≤◌, Bool, true, false, cond, ◌&&◌, ◌||◌, not, List, [], ◌∷◌, ◌++◌, length, get_or, Option, Some, None, Ordering, refl, sym, ap, ◌∙◌, subst, arith, ◌⊎◌, inl, inr}
+use Rattle.std.proofs.Common.{◌≡◌, ℕ, zero, suc, ◌+◌, ◌<◌, Bool, true, false, cond, ◌&&◌, ◌||◌, not, List, [], ◌∷◌, ◌++◌, length, Option, Some, None, Ordering, refl, sym, ap, ◌∙◌, arith, ◌⊎◌, inl, inr}
 use Rattle.std.specs.declared.cmp.Ordering.TheVariants.{Less, Equal, Greater}
-use Rattle.std.specs.List.{list_any, count_by}
-use Rattle.std.specs.Ordering.{ordering_then, ordering_reverse, bool_cmp, nat_cmp, is_gt}
+use Rattle.std.specs.List.{count_by}
+use Rattle.std.specs.Ordering.{ordering_then, ordering_reverse, bool_cmp, is_gt}
 use Rattle.std.specs.Cmp.{IsTotalOrder, then_total, on_total, bool_cmp_total}
-use Rattle.std.specs.Cmp.Lexicographic.{slice_cmp, nat_list_cmp_total, nat_list_eq_equiv}
+use Rattle.std.specs.Cmp.Lexicographic.{nat_list_cmp_total, nat_list_eq_equiv}
 use Rattle.std.specs.Str.{bytes_eq}
 use Rattle.std.proofs.lemmas.Map.Lookups.{exact_bytes}
-use Rattle.std.proofs.lemmas.List.Folds.{list_any-append}
 use Rattle.std.proofs.lemmas.List.Sums.{sum_by-cons}
 use Rattle.std.proofs.lemmas.Slice.Eq.{bytes_eq-Decides}
 use Rattle.kb_auto.specs.declared.Listed.{Listed}
 use Rattle.kb_auto.specs.declared.Placed.{Placed}
-use Rattle.kb_auto.specs.Order.{is_listed, is_placed, is_open, waits_for, turn_of, place_order, sooner, next_among, with_next, placed, in_order, NamesDiffer}
+use Rattle.kb_auto.specs.Order.{is_listed, is_placed, is_open, turn_of, place_order, sooner, next_among}
 use Rattle.kb_auto.specs.Queue.{module_at, is_link}
 
 -- ---- the order of places
@@ -180,11 +179,11 @@ waits_less list done other p m same listed fresh [] = refl
 waits_less list done other p m same listed fresh (name ∷ names) =
     let behind = waits_less list done other p m same listed fresh names in
     let here = one_less (bytes_eq name m.name) (is_listed list name) (is_placed done name) (is_placed (done ++ p ∷ []) name) (bytes_eq name other.name)
-        (placed_more done p name ∙ ap (λ n. is_placed done name || bytes_eq name n) same)
-        (λ e. ap (is_listed list) (bytes_eq-true name other.name e ∙ sym same) ∙ listed)
-        (λ e. ap (is_placed done) (bytes_eq-true name other.name e ∙ sym same) ∙ fresh) in
+    (placed_more done p name ∙ ap (λ n. is_placed done name || bytes_eq name n) same)
+    (λ e. ap (is_listed list) (bytes_eq-true name other.name e ∙ sym same) ∙ listed)
+    (λ e. ap (is_placed done) (bytes_eq-true name other.name e ∙ sym same) ∙ fresh) in
     four _ _ _ _ _ _ _ _ _
-        (sum_by-cons (λ n. cond (is_open list (done ++ p ∷ []) m n) 1 0) name names)
-        (sum_by-cons (λ n. cond (is_link other m n) 1 0) name names)
-        (sum_by-cons (λ n. cond (is_open list done m n) 1 0) name names)
-        here behind
+    (sum_by-cons (λ n. cond (is_open list (done ++ p ∷ []) m n) 1 0) name names)
+    (sum_by-cons (λ n. cond (is_link other m n) 1 0) name names)
+    (sum_by-cons (λ n. cond (is_open list done m n) 1 0) name names)
+    here behind

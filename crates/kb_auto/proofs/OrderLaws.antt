@@ -1,5 +1,5 @@
 -- How one step of the order goes on.
-use Rattle.std.proofs.Common.{◌≡◌, ◌≢◌, ℕ, zero, suc, ◌+◌, ◌-◌, ◌<◌, ◌≤◌, Bool, true, false, cond, ◌&&◌, ◌||◌, not, List, [], ◌∷◌, ◌++◌, length, get_or, Option, Some, None, Ordering, refl, sym, ap, ◌∙◌, subst, arith, nat_eq, nat_lt, ◌⊎◌, inl, inr}
+use Rattle.std.proofs.Common.{◌≡◌, ℕ, zero, suc, ◌+◌, ◌-◌, ◌<◌, ◌≤◌, Bool, true, false, cond, ◌&&◌, ◌||◌, not, List, [], ◌∷◌, ◌++◌, length, get_or, Some, None, Ordering, refl, sym, ap, ◌∙◌, arith, nat_eq, nat_lt, ◌⊎◌, inl, inr}
 use Rattle.std.specs.declared.cmp.Ordering.TheVariants.{Less, Equal, Greater}
 use Rattle.std.specs.Ordering.{ordering_then, bool_cmp, nat_cmp, is_gt, is_eq}
 use Rattle.std.specs.Cmp.Lexicographic.{slice_cmp}
@@ -11,8 +11,8 @@ use Rattle.std.specs.Global.{Vec}
 use Rattle.kb_auto.specs.declared.Listed.{Listed}
 use Rattle.kb_auto.specs.declared.Placed.{Placed}
 use Rattle.kb_auto.specs.declared.turns.Turn.{Turn}
-use Rattle.kb_auto.specs.Order.{is_listed, is_placed, is_open, waits_for, turn_of, place_order, next_among, with_next, placed, in_order, NamesDiffer}
-use Rattle.kb_auto.specs.Queue.{module_at, turn_cmp, turn_at, Queues, AreLinked, row_at, occurs, is_link, links}
+use Rattle.kb_auto.specs.Order.{is_listed, is_placed, waits_for, turn_of, place_order, next_among, with_next, placed, NamesDiffer}
+use Rattle.kb_auto.specs.Queue.{module_at, turn_cmp, turn_at, Queues, AreLinked, row_at, occurs, links}
 use Rattle.kb_auto.proofs.NextLaws.{next_is, next_none, before_at, of_at, listed_at, placed_more, waits_less, bytes_eq-true, bytes_eq-refl}
 use Rattle.kb_auto.proofs.QueueLaws.{same_turn, queue_popped, queue_told}
 
@@ -121,7 +121,7 @@ module _ (list : List Listed) (rows : Vec (Vec ℕ)) (differ : NamesDiffer list)
   pub next : ((q : Turn) → contains turn_cmp before q ≡ true → is_gt (turn_cmp t q) ≡ false) → next_among list done list ≡ Some p
   next least = next_is list done p list
       (before_at list done p list (λ k l f. ap (λ (q : Placed). is_gt (place_order p q)) (turn_is k l)
-          ∙ first_two (bool_cmp t.cyclic (nat_lt 0 (get_or waits k 0))) (slice_cmp nat_cmp t.name (module_at list k).name) (nat_cmp t.place k) (least (turn_at list waits k) (h.turns.all k l (ap not f)))))
+      ∙ first_two (bool_cmp t.cyclic (nat_lt 0 (get_or waits k 0))) (slice_cmp nat_cmp t.name (module_at list k).name) (nat_cmp t.place k) (least (turn_at list waits k) (h.turns.all k l (ap not f)))))
       (of_at list done p list t.place within (ap (is_placed done) (sym named) ∙ fresh) p_is)
 
   pub goes : (now : List ℕ) (mid after : BTreeSet Turn)

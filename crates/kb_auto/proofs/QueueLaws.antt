@@ -1,15 +1,14 @@
 -- Laws of the queue of turns.
-use Rattle.std.proofs.Common.{◌≡◌, ◌≢◌, ℕ, zero, suc, ◌+◌, ◌-◌, ◌<◌, ◌≤◌, Bool, true, false, cond, ◌&&◌, ◌||◌, not, List, [], ◌∷◌, ◌++◌, length, get_or, set, Option, Some, None, Ordering, refl, sym, ap, ◌∙◌, subst, arith, nat_eq, nat_lt, get_or-set_same, get_or-set_other}
+use Rattle.std.proofs.Common.{◌≡◌, ◌≢◌, ℕ, ◌+◌, ◌-◌, ◌<◌, ◌≤◌, Bool, true, false, cond, ◌&&◌, not, List, length, get_or, set, Ordering, refl, sym, ap, ◌∙◌, subst, arith, nat_eq, nat_lt, get_or-set_same, get_or-set_other}
 use Rattle.std.specs.declared.cmp.Ordering.TheVariants.{Less, Equal, Greater}
 use Rattle.std.specs.List.{list_any}
-use Rattle.std.specs.Ordering.{ordering_then, bool_cmp, nat_cmp, is_eq}
+use Rattle.std.specs.Ordering.{bool_cmp, nat_cmp, is_eq}
 use Rattle.std.specs.Cmp.{IsTotalOrder, then_total, on_total, bool_cmp_total, nat_cmp_total}
 use Rattle.std.specs.Cmp.Lexicographic.{slice_cmp, nat_list_cmp_total}
-use Rattle.std.specs.BTreeSet.{BTreeSet, contains, Updates, IsEmpty, IsUnchanged}
+use Rattle.std.specs.BTreeSet.{BTreeSet, contains, IsEmpty, IsUnchanged}
 use Rattle.std.proofs.lemmas.Map.Lookups.{exact_bytes, exact_unsigned}
 use Rattle.std.proofs.lemmas.Cmp.{tied_itself}
 use Rattle.std.proofs.lemmas.Bool.{eqb-true, eqb-false, lt-ltb, ltb-true, le-ltb}
-use Rattle.std.proofs.lemmas.Grind.{common_steps}
 use Rattle.kb_auto.specs.declared.Listed.{Listed}
 use Rattle.kb_auto.specs.declared.turns.Turn.{Turn}
 use Rattle.kb_auto.specs.Queue.{module_at, turn_cmp, turn_at, Queues}
@@ -99,11 +98,11 @@ module _ (list : List Listed) where
       → ((k : ℕ) → k < length list → less k ≡ (among k && not (nat_eq k t.place)))
       → Queues list waits less after
   queue_popped waits among before after t less h has updates left = record {
-      within = λ q e. h.within q (was q e);
-      left = λ q e. left q.place (h.within q (was q e)) ∙ both (among q.place) (nat_eq q.place t.place) (h.left q (was q e)) (other q.place (apart_by_turn list waits among before h t q (h.turns t has) (was q e) (not_it q e)));
-      turns = λ q e. h.turns q (was q e);
-      all = λ k l e. all k l (sym (left k l) ∙ e);
-    }
+    within = λ q e. h.within q (was q e);
+    left = λ q e. left q.place (h.within q (was q e)) ∙ both (among q.place) (nat_eq q.place t.place) (h.left q (was q e)) (other q.place (apart_by_turn list waits among before h t q (h.turns t has) (was q e) (not_it q e)));
+    turns = λ q e. h.turns q (was q e);
+    all = λ k l e. all k l (sym (left k l) ∙ e);
+  }
     where
       inside : (a b : Bool) → cond a false b ≡ true → (a ≡ false) × (b ≡ true)
       inside true b e = no_false e
@@ -146,11 +145,11 @@ module _ (list : List Listed) where
       → ((k : ℕ) → nat_lt 0 (get_or now k 0) ≡ nat_lt 0 (get_or waits k 0))
       → Queues list waits among queue → Queues list now among queue
   queue_stays waits now among queue same h = record {
-      within = h.within;
-      left = h.left;
-      turns = λ t e. h.turns t e ∙ sym (turns_stay waits now t.place (same t.place));
-      all = λ k l e. ap (contains turn_cmp queue) (turns_stay waits now k (same k)) ∙ h.all k l e;
-    }
+    within = h.within;
+    left = h.left;
+    turns = λ t e. h.turns t e ∙ sym (turns_stay waits now t.place (same t.place));
+    all = λ k l e. ap (contains turn_cmp queue) (turns_stay waits now k (same k)) ∙ h.all k l e;
+  }
 
   -- a turn that waited isn't in the queue, so no turn at its place is
   pub queue_lacks : (waits now : List ℕ) (among : ℕ → Bool) (before after : BTreeSet Turn) (t : Turn)
@@ -159,11 +158,11 @@ module _ (list : List Listed) where
       → contains turn_cmp before t ≡ false → IsUnchanged before after
       → Queues list waits among before → Queues list now among after
   queue_lacks waits now among before after t l at same lacks unchanged h = record {
-      within = λ q e. h.within q (was q e);
-      left = λ q e. h.left q (was q e);
-      turns = λ q e. h.turns q (was q e) ∙ sym (stays q.place (apart q (was q e)));
-      all = λ k m e. has (turn_at list now k) ∙ ap (contains turn_cmp before) (stays k (gone k m e)) ∙ h.all k m e;
-    }
+    within = λ q e. h.within q (was q e);
+    left = λ q e. h.left q (was q e);
+    turns = λ q e. h.turns q (was q e) ∙ sym (stays q.place (apart q (was q e)));
+    all = λ k m e. has (turn_at list now k) ∙ ap (contains turn_cmp before) (stays k (gone k m e)) ∙ h.all k m e;
+  }
     where
       has : (q : Turn) → contains turn_cmp after q ≡ contains turn_cmp before q
       has q = ap (list_any (λ k. is_eq (turn_cmp q k))) unchanged
@@ -191,11 +190,11 @@ module _ (list : List Listed) where
       → ((q : Turn) → contains turn_cmp after q ≡ cond (same_turn u q) true (cond (same_turn t q) false (contains turn_cmp before q)))
       → Queues list waits among before → Queues list now among after
   queue_moved waits now among before after t u l at place to same has updates h = record {
-      within = λ q e. either q e (λ (f : u ≡ q). subst (λ k. k < length list) (sym place ∙ ap (λ (v : Turn). v.place) f) l) (λ f g. h.within q g);
-      left = λ q e. either q e (λ (f : u ≡ q). ap among (sym (sym place ∙ ap (λ (v : Turn). v.place) f)) ∙ h.left t has) (λ f g. h.left q g);
-      turns = λ q e. either q e (λ (f : u ≡ q). sym f ∙ to ∙ ap (turn_at list now) (sym place ∙ ap (λ (v : Turn). v.place) f)) (λ f g. h.turns q g ∙ sym (stays q.place (apart_by_turn list waits among before h t q at g f)));
-      all = λ k m e. by_place k m e (nat_eq k t.place) refl;
-    }
+    within = λ q e. either q e (λ (f : u ≡ q). subst (λ k. k < length list) (sym place ∙ ap (λ (v : Turn). v.place) f) l) (λ f g. h.within q g);
+    left = λ q e. either q e (λ (f : u ≡ q). ap among (sym (sym place ∙ ap (λ (v : Turn). v.place) f)) ∙ h.left t has) (λ f g. h.left q g);
+    turns = λ q e. either q e (λ (f : u ≡ q). sym f ∙ to ∙ ap (turn_at list now) (sym place ∙ ap (λ (v : Turn). v.place) f)) (λ f g. h.turns q g ∙ sym (stays q.place (apart_by_turn list waits among before h t q at g f)));
+    all = λ k m e. by_place k m e (nat_eq k t.place) refl;
+  }
     where
       stays : (k : ℕ) → k ≢ t.place → turn_at list now k ≡ turn_at list waits k
       stays k f = turns_stay waits now k (ap (nat_lt 0) (same k f))
@@ -229,11 +228,11 @@ module _ (list : List Listed) where
       → ((q : Turn) → contains turn_cmp after q ≡ cond (same_turn u q) true (contains turn_cmp before q))
       → Queues list waits (λ k. nat_lt k n) before → Queues list waits (λ k. nat_lt k (n + 1)) after
   queue_more waits before after n u l to updates h = record {
-      within = λ q e. either q e (λ (f : u ≡ q). subst (λ k. k < length list) (ap (λ (v : Turn). v.place) (sym to ∙ f)) l) (λ g. h.within q g);
-      left = λ q e. either q e (λ (f : u ≡ q). below q.place (n + 1) (let at : n ≡ q.place = ap (λ (v : Turn). v.place) (sym to ∙ f) in omega (arith, at))) (λ g. below q.place (n + 1) (let at = under q.place n (h.left q g) in omega (arith, at)));
-      turns = λ q e. either q e (λ (f : u ≡ q). sym f ∙ to ∙ ap (turn_at list waits) (ap (λ (v : Turn). v.place) (sym to ∙ f))) (λ g. h.turns q g);
-      all = λ k m e. by_place k m e (nat_eq k n) refl;
-    }
+    within = λ q e. either q e (λ (f : u ≡ q). subst (λ k. k < length list) (ap (λ (v : Turn). v.place) (sym to ∙ f)) l) (λ g. h.within q g);
+    left = λ q e. either q e (λ (f : u ≡ q). below q.place (n + 1) (let at : n ≡ q.place = ap (λ (v : Turn). v.place) (sym to ∙ f) in omega (arith, at))) (λ g. below q.place (n + 1) (let at = under q.place n (h.left q g) in omega (arith, at)));
+    turns = λ q e. either q e (λ (f : u ≡ q). sym f ∙ to ∙ ap (turn_at list waits) (ap (λ (v : Turn). v.place) (sym to ∙ f))) (λ g. h.turns q g);
+    all = λ k m e. by_place k m e (nat_eq k n) refl;
+  }
     where
       cases : {A : Type 0} (a c : Bool) → cond a true c ≡ true → (a ≡ true → A) → (c ≡ true → A) → A
       cases true c e f g = f refl
@@ -259,11 +258,11 @@ module _ (list : List Listed) where
   pub queue_told : (waits : List ℕ) (among also : ℕ → Bool) (queue : BTreeSet Turn) → ((k : ℕ) → k < length list → also k ≡ among k)
       → Queues list waits among queue → Queues list waits also queue
   queue_told waits among also queue same h = record {
-      within = h.within;
-      left = λ t e. same t.place (h.within t e) ∙ h.left t e;
-      turns = h.turns;
-      all = λ k l e. h.all k l (sym (same k l) ∙ e);
-    }
+    within = h.within;
+    left = λ t e. same t.place (h.within t e) ∙ h.left t e;
+    turns = h.turns;
+    all = λ k l e. h.all k l (sym (same k l) ∙ e);
+  }
 
   -- the last dependency of a module is placed: its turn goes before those that wait
   pub moved_at : (waits : List ℕ) (place v : ℕ) (name : List ℕ) (before mid after : BTreeSet Turn)

@@ -1,21 +1,20 @@
 -- Laws of the places of names, and of the rows that tell who waits for whom.
-use Rattle.std.proofs.Common.{◌≡◌, ◌≢◌, ℕ, zero, suc, ◌+◌, ◌-◌, ◌<◌, ◌≤◌, Bool, true, false, cond, ◌&&◌, ◌||◌, not, List, [], ◌∷◌, ◌++◌, length, get_or, set, take, map, Option, Some, None, Ordering, refl, sym, ap, ◌∙◌, subst, arith, nat_eq, nat_lt, vec_len, ◌⊎◌, inl, inr, get_or-set_same, get_or-set_other}
+use Rattle.std.proofs.Common.{◌≡◌, ◌≢◌, ℕ, suc, ◌+◌, ◌-◌, ◌<◌, ◌≤◌, Bool, true, false, cond, ◌&&◌, ◌||◌, not, List, [], ◌∷◌, ◌++◌, length, get_or, set, take, map, Some, None, refl, sym, ap, ◌∙◌, subst, arith, nat_eq, nat_lt, vec_len, ◌⊎◌, inl, inr, get_or-set_same, get_or-set_other}
 use Rattle.std.specs.Global.{Vec}
 use Rattle.std.specs.Option.{is_some, unwrap_or}
-use Rattle.std.specs.List.{list_any, count_by}
+use Rattle.std.specs.List.{count_by}
 use Rattle.std.specs.Ordering.{nat_cmp, is_eq}
 use Rattle.std.specs.Cmp.Lexicographic.{slice_cmp, nat_list_cmp_total}
 use Rattle.std.specs.BTreeMap.{BTreeMap, get, IsEmpty}
 use Rattle.std.specs.Map.{lookup}
 use Rattle.std.specs.Str.{bytes_eq}
-use Rattle.std.proofs.lemmas.Bool.{eqb-true, eqb-false, eq-eqb, cases_lt, ltb-true, lt-ltb, le-ltb}
+use Rattle.std.proofs.lemmas.Bool.{eqb-true, eqb-false, eq-eqb, cases_lt, lt-ltb, le-ltb}
 use Rattle.std.proofs.lemmas.Cmp.{tied_itself}
 use Rattle.std.proofs.lemmas.List.{map_push, map-set, get_or_append_left, get_or-map, length-map, get_or-append_right}
 use Rattle.std.proofs.lemmas.List.Sums.{count_by_more_yes, count_by_more_no}
-use Rattle.std.proofs.lemmas.Map.Lookups.{exact_bytes}
 use Rattle.std.proofs.lemmas.Map.Text.{is_eq-slice_cmp}
 use Rattle.kb_auto.specs.declared.Listed.{Listed}
-use Rattle.kb_auto.specs.Order.{is_listed, is_open, waits_for, NamesDiffer}
+use Rattle.kb_auto.specs.Order.{is_listed, is_open, NamesDiffer}
 use Rattle.kb_auto.specs.Queue.{module_at, ArePlaces, AreLinked, LinksSome, LinksMore, row_at, occurs, is_link, links}
 use Rattle.kb_auto.proofs.NextLaws.{bytes_eq-refl, bytes_eq-true, listed_at}
 use Rattle.kb_auto.proofs.RowLaws.{occurs_push}

@@ -1,12 +1,13 @@
 //! The order in which modules are built and installed: each behind its dependencies.
 #![tactic(auto)]
 
+mod laws;
 mod placing;
 mod turns;
 mod web;
 
 use kb_world::{Text, Texts};
-
+pub use laws::{each_module_is_placed_once, modules_stand_behind_their_dependencies};
 pub use placing::order;
 
 /// A module, with the names of those that are to stand before it.

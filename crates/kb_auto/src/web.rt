@@ -17,10 +17,7 @@ pub(crate) struct Web {
 }
 
 /// The place of each name in the list.
-pub(crate) fn places_of(
-    alloc: Global,
-    list: &[Listed],
-) -> Result<BTreeMap<Text, usize>, AllocError>
+pub(crate) fn places_of(alloc: Global, list: &[Listed]) -> Result<BTreeMap<Text, usize>, AllocError>
     requires { NamesDiffer list.now }
     ensures { IfOk result (ArePlaces list.now (length list.now)) }
 {

@@ -1,4 +1,4 @@
-use Rattle.std.proofs.Common.{◌≡◌, ℕ, Bool, ◌+◌, length, nat_lt}
+use Rattle.std.proofs.Common.{nat_lt}
 use Rattle.kb_auto.specs.Queue.{Queues}
 use Rattle.kb_auto.proofs.turns.first_turns.Given as goal
 

@@ -1,6 +1,5 @@
-use Rattle.std.proofs.Common.{arith, ap, refl, sym, ◌∙◌, ◌≡◌, ◌<◌, ◌≤◌, ◌-◌, get_or, length}
+use Rattle.std.proofs.Common.{arith, ap, sym, ◌∙◌}
 use Rattle.std.proofs.lemmas.Grind.{common_steps}
-use Rattle.kb_auto.specs.Queue.{module_at}
 use Rattle.kb_auto.proofs.QueueLaws.{moved_at}
 use Rattle.kb_auto.specs.declared.Listed.{Listed}
 use Rattle.kb_auto.proofs.RowLaws.{is_module}

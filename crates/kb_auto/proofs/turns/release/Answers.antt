@@ -1,4 +1,4 @@
-use Rattle.std.proofs.Common.{arith, get_or, ◌+◌, ◌≤◌, ◌≡◌}
+use Rattle.std.proofs.Common.{arith, get_or}
 use Rattle.kb_auto.proofs.RowLaws.{occurs_more, in_list}
 use Rattle.kb_auto.proofs.turns.release.Goals as goal
 

@@ -1,12 +1,9 @@
-use Rattle.std.proofs.Common.{arith, rules, ◌≡◌, ◌≤◌, ◌+◌, length, sym, ap, ◌∙◌, ℕ, subst, [], take_all, take, length-set, vec_len}
-use Rattle.std.proofs.lemmas.Grind.{common_steps}
+use Rattle.std.proofs.Common.{arith, ◌≡◌, ◌+◌, length, sym, ap, ◌∙◌, ℕ, subst, take_all, take, vec_len}
 use Rattle.std.specs.Global.{Vec}
-use Rattle.std.specs.List.{count_by}
 use Rattle.kb_auto.specs.declared.Listed.{Listed}
-use Rattle.kb_auto.specs.Order.{is_open}
-use Rattle.kb_auto.specs.Queue.{ArePlaces, LinksSome, module_at}
+use Rattle.kb_auto.specs.Queue.{LinksSome, module_at}
 use Rattle.kb_auto.proofs.RowLaws.{is_module}
-use Rattle.kb_auto.proofs.WebLaws.{open_own, link_own, open_found, link_found, open_missed, link_missed, count_yes, count_no, linked_no, linked_yes}
+use Rattle.kb_auto.proofs.WebLaws.{open_found, link_found, open_missed, link_missed, count_yes, count_no, linked_no, linked_yes}
 use Rattle.kb_auto.proofs.web.link.Goals as goal
 use Rattle.kb_auto.proofs.web.link.Goals.{in-Some+in_ok-push, in_default}
 
@@ -14,7 +11,7 @@ pub loop-name-preserved : goal.loop-name-preserved
 loop-name-preserved c =
     let fresh = sym c.if-eq.ensures in
     elim c.match-get.branch [
-      in-Some+in_ok-push w ↦ record {
+      | in-Some+in_ok-push w ↦ record {
         len = ap (λ (r : Vec (Vec ℕ)). vec_len r) w.rows-is ∙ c.loop-name.invariant.len;
         count = w.count-is ∙ count_yes c.args.list.now c.args.place c.index-list-place.result c.as_slice-name-items.result.now c.loop-name.name-index c.name-item.result c.loop-name-test.true c.name-item.is
             c.loop-name.count c.loop-name.invariant.count
@@ -26,7 +23,7 @@ loop-name-preserved c =
             (link_found c.args.list.now c.args.places.now c.requires.places c.index-list-place.result c.name-item.result w.in-Some.other.now (sym w.in-Some.ensures.value) fresh)
             c.loop-name.invariant.linked;
       }
-    | in_default w ↦ record {
+      | in_default w ↦ record {
         len = ap (λ (r : Vec (Vec ℕ)). vec_len r) w.rows-is ∙ c.loop-name.invariant.len;
         count = w.count-is ∙ count_no c.args.list.now c.args.place c.index-list-place.result c.as_slice-name-items.result.now c.loop-name.name-index c.name-item.result c.loop-name-test.true c.name-item.is
             c.loop-name.count c.loop-name.invariant.count
@@ -42,6 +39,6 @@ pub returns-clause-linked : goal.returns-clause-linked
 returns-clause-linked c =
     let e : c.index-list-place.result ≡ module_at c.args.list.now c.args.place = is_module c.args.list.now c.args.place c.index-list-place.result c.requires.within c.index-list-place.is in
     let names : take c.loop-name.name-index c.as_slice-name-items.result.now ≡ (module_at c.args.list.now c.args.place).depends =
-        take_all c.loop-name.name-index c.as_slice-name-items.result.now c.loop-name-test.false ∙ c.as_slice-name-items.ensures ∙ ap (λ (m : Listed). m.depends) e in
+    take_all c.loop-name.name-index c.as_slice-name-items.result.now c.loop-name-test.false ∙ c.as_slice-name-items.ensures ∙ ap (λ (m : Listed). m.depends) e in
     subst (λ ns. LinksSome c.args.list.now c.args.place (module_at c.args.list.now c.args.place) ns c.args.rows.now c.loop-name.rows) names
     (subst (λ m. LinksSome c.args.list.now c.args.place m (take c.loop-name.name-index c.as_slice-name-items.result.now) c.args.rows.now c.loop-name.rows) e c.loop-name.invariant.linked)

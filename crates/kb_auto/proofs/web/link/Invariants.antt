@@ -1,4 +1,4 @@
-use Rattle.std.proofs.Common.{◌≡◌, ◌<◌, ◌+◌, ℕ, [], vec_len, length, take}
+use Rattle.std.proofs.Common.{◌≡◌, [], vec_len, length, take}
 use Rattle.std.specs.List.{count_by}
 use Rattle.kb_auto.specs.Order.{is_open}
 use Rattle.kb_auto.specs.Queue.{LinksSome}

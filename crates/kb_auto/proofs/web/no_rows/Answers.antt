@@ -1,6 +1,4 @@
-use Rattle.std.proofs.Common.{arith, ◌≡◌, ◌+◌, ◌<◌, ◌≤◌, ℕ, [], vec_len}
-use Rattle.std.proofs.lemmas.Grind.{common_steps}
-use Rattle.kb_auto.specs.Queue.{row_at}
+use Rattle.std.proofs.Common.{arith}
 use Rattle.kb_auto.proofs.WebLaws.{no_rows_more}
 use Rattle.kb_auto.proofs.web.no_rows.Goals as goal
 

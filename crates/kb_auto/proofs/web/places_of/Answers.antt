@@ -1,4 +1,4 @@
-use Rattle.std.proofs.Common.{arith, ◌≡◌, ◌≤◌, length, sym, ap, ◌∙◌, ℕ, subst}
+use Rattle.std.proofs.Common.{arith, ◌≡◌, length, ap, ◌∙◌, subst}
 use Rattle.kb_auto.specs.declared.Listed.{Listed}
 use Rattle.kb_auto.specs.Queue.{ArePlaces}
 use Rattle.kb_auto.proofs.RowLaws.{is_module}

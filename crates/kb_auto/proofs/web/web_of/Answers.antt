@@ -1,7 +1,7 @@
-use Rattle.std.proofs.Common.{arith, rules, ◌≡◌, ◌≤◌, ◌+◌, length, sym, ap, ◌∙◌, ℕ, subst, [], vec_len}
+use Rattle.std.proofs.Common.{arith, ◌≡◌, length, sym, ◌∙◌, subst, []}
 use Rattle.kb_auto.specs.Order.{waits_for}
 use Rattle.kb_auto.specs.Queue.{AreLinked, module_at}
-use Rattle.kb_auto.proofs.WebLaws.{linked_none, linked_more, below_push}
+use Rattle.kb_auto.proofs.WebLaws.{linked_more, below_push}
 use Rattle.kb_auto.proofs.web.web_of.Goals as goal
 
 pub loop-place-preserved : goal.loop-place-preserved

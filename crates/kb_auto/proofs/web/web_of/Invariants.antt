@@ -1,4 +1,4 @@
-use Rattle.std.proofs.Common.{◌≡◌, ◌<◌, ◌+◌, ℕ, [], vec_len, length, get_or}
+use Rattle.std.proofs.Common.{◌≡◌, ◌<◌, ℕ, [], vec_len, length, get_or}
 use Rattle.kb_auto.specs.Order.{waits_for}
 use Rattle.kb_auto.specs.Queue.{AreLinked, module_at}
 use Rattle.kb_auto.proofs.web.web_of.Given as goal
