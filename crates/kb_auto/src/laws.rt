@@ -12,8 +12,8 @@ pub fn each_module_is_placed_once()
     ensures once { (list : List Listed) (i j : ℕ) → i < j → j < length (in_order list) → (placed_at (in_order list) i).name ≢ (placed_at (in_order list) j).name }
 {}
 
-/// A module that isn't cyclic stands behind all its dependencies but itself: of those before it each that the list has
-/// is placed.
+/// A module that isn't cyclic stands behind all its dependencies but itself: where it is placed, it waits
+/// for none of them.
 pub fn modules_stand_behind_their_dependencies()
     ensures { (list : List Listed) (i k j : ℕ) → NamesDiffer list → i < length (in_order list) → k < length list → (placed_at (in_order list) i).name ≡ (module_at list k).name → (placed_at (in_order list) i).cyclic ≡ false → j < length (module_at list k).depends → is_open list (take i (in_order list)) (module_at list k) (slice_index_or (module_at list k).depends j []) ≡ false }
 {}

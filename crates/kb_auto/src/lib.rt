@@ -17,7 +17,8 @@ pub struct Listed {
     pub depends: Texts,
 }
 
-/// A module at its place. One that is cyclic stands there though a dependency of it is still to come.
+/// A module at its place. One that is cyclic stands there though a dependency of it is still to
+/// come.
 #[derive(Debug, Drop, Clone)]
 pub struct Placed {
     pub name: Text,
