@@ -51,7 +51,7 @@ next_stands list done p (m ∷ ms) h = by_test (λ q e. next_stands list done q 
     by_test again true f g = later list done p m ms (again p g)
     by_test again false f g = by_rest again (next_among list done ms) refl f (some_one (sooner (turn_of list done m) (next_among list done ms)) p g)
 
-none_next : (list : List Listed) (done : List Placed) (ms : List Listed) → next_among list done ms ≡ None → (k : ℕ) → k < length ms → is_placed done (module_at ms k).name ≡ true
+pub none_next : (list : List Listed) (done : List Placed) (ms : List Listed) → next_among list done ms ≡ None → (k : ℕ) → k < length ms → is_placed done (module_at ms k).name ≡ true
 none_next list done [] h k l = absurd (omega (arith, l))
 none_next list done (m ∷ ms) h k l = by_test (none_next list done ms) (is_placed done m.name) refl h k l
   where
@@ -124,6 +124,9 @@ each_is_next (suc n) list done i l m = by_next (λ d. each_is_next n list d i) (
     by_next : ((d : List Placed) → length d ≤ i → i < length (placed n list d) → IsNextAt list i (placed n list d)) → (o : Option Placed) → next_among list done list ≡ o → i < length (with_next done (λ p. placed n list (done ++ p ∷ [])) o) → IsNextAt list i (with_next done (λ p. placed n list (done ++ p ∷ [])) o)
     by_next again None e m = absurd (omega (arith, l, m))
     by_next again (Some p) e m = by_place again p e m (cases_lt (length done) i)
+
+pub next_at : (list : List Listed) (i : ℕ) → i < length (in_order list) → next_among list (take i (in_order list)) list ≡ Some (placed_at (in_order list) i)
+next_at list i l = each_is_next (length list) list [] i (omega arith) l
 
 pub stands_at : (list : List Listed) (i : ℕ) → i < length (in_order list) → Stands list (take i (in_order list)) (placed_at (in_order list) i) list
 stands_at list i l = next_stands list (take i (in_order list)) (placed_at (in_order list) i) list (each_is_next (length list) list [] i (omega arith) l)

@@ -7,7 +7,10 @@ mod turns;
 mod web;
 
 use kb_world::{Text, Texts};
-pub use laws::{each_module_is_placed_once, modules_stand_behind_their_dependencies};
+pub use laws::{
+    each_module_is_placed_once, modules_stand_behind_their_dependencies,
+    none_is_cyclic_without_a_ring,
+};
 pub use placing::order;
 
 /// A module, with the names of those that are to stand before it.

@@ -7,9 +7,9 @@ use crate::web::{Web, places_of, web_of};
 use crate::{Listed, Placed};
 use std::alloc::{AllocError, Global};
 
-/// The modules of the list in their order: repeatedly the least name of those whose dependencies are
-/// placed, and where there is none the least name that is left, as cyclic. A dependency that isn't in
-/// the list isn't waited for, nor one of a module on itself.
+/// The modules of the list in their order: repeatedly the least name of those whose dependencies
+/// are placed, and where there is none the least name that is left, as cyclic. A dependency that
+/// isn't in the list isn't waited for, nor one of a module on itself.
 pub fn order(alloc: Global, list: &[Listed]) -> Result<Vec<Placed>, AllocError>
     requires { NamesDiffer list.now }
     ensures { IfOk result (λ placed. placed.items ≡ in_order list.now) }

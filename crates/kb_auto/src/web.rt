@@ -8,8 +8,8 @@ use kb_world::Text;
 use std::alloc::{AllocError, Global};
 use std::collections::BTreeMap;
 
-/// For each module how many dependencies it waits for, and the places of those that wait for it, once
-/// for each time that they list it.
+/// For each module how many dependencies it waits for, and the places of those that wait for it,
+/// once for each time that they list it.
 #[derive(Drop)]
 pub(crate) struct Web {
     pub waits: Vec<usize>,
