@@ -13,14 +13,18 @@ ghost use Rattle.kb_top.specs.Setting.{IsHostOf, IsBadRoot, IsBadBoot};
 
 /// Each setting tells of a machine, or has a bad root, or a bad boot, and only one of the three.
 pub fn settings_are_good_or_bad()
-    ensures one { (setting : Setting) → ((host : Host) × IsHostOf setting host) ⊎ (IsBadRoot setting ⊎ IsBadBoot setting) }
-    ensures good_root { (setting : Setting) (host : Host) → IsHostOf setting host → IsBadRoot setting → ⊥ }
-    ensures good_boot { (setting : Setting) (host : Host) → IsHostOf setting host → IsBadBoot setting → ⊥ }
+    ensures one { (setting : Setting) → ((host : Host) × IsHostOf setting host) ⊎
+        (IsBadRoot setting ⊎ IsBadBoot setting) }
+    ensures good_root { (setting : Setting) (host : Host) → IsHostOf setting host
+        → IsBadRoot setting → ⊥ }
+    ensures good_boot { (setting : Setting) (host : Host) → IsHostOf setting host
+        → IsBadBoot setting → ⊥ }
     ensures root_first { (setting : Setting) → IsBadRoot setting → IsBadBoot setting → ⊥ }
 {}
 
 /// The store that stands is the public tree of what is ready, from which the machine goes on.
 pub fn what_stands_is_ready()
-    ensures { (roots : Roots) (store : Tree) (state : State) (tree ready : Tree) (found : Option Intent) → state.tree ≡ Some tree → IsFormed tree
+    ensures { (roots : Roots) (store : Tree) (state : State) (tree ready : Tree)
+        (found : Option Intent) → state.tree ≡ Some tree → IsFormed tree
         → IsReady roots state.script tree ready found → Stands roots store state → public_tree roots ready ≡ store }
 {}
