@@ -1,0 +1,7 @@
+pub mod NextLaws
+pub mod OrderLaws
+pub mod PlacedLaws
+pub mod QueueLaws
+pub mod RankLaws
+pub mod RowLaws
+pub mod WebLaws

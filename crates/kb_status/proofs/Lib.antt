@@ -1,0 +1,5 @@
+pub mod KeptLaws
+pub mod LineLaws
+pub mod OrderLaws
+pub mod SortLaws
+pub mod WantLaws
