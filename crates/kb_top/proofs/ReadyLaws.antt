@@ -4,14 +4,14 @@ use Rattle.std.specs.Prelude.{Result, Ok, Err}
 use Rattle.std.specs.List.{list_any}
 use Rattle.std.specs.Option.{ForSome}
 use Rattle.std.proofs.lemmas.List.{append-nil}
-use Rattle.kb_world.specs.Crash.{Adds}
+use Rattle.kb_world.specs.Crash.{LeftOf, Adds}
 use Rattle.kb_world.specs.Does.{Answers}
 use Rattle.kb_world.specs.Outcome.{Outcome}
 use Rattle.kb_world.specs.Public.{intent_path, staging_path, public_tree, foreign_tree}
 use Rattle.kb_world.specs.Path.{is_under}
 use Rattle.kb_world.specs.Script.{Script}
 use Rattle.kb_world.specs.State.{State, HasCause, Lasts}
-use Rattle.kb_world.specs.Tree.{Tree, node_at, file_bytes}
+use Rattle.kb_world.specs.Tree.{Tree, node_at, file_bytes, IsFormed}
 use Rattle.kb_world.specs.TreeLaws.{node_at-retain}
 use Rattle.kb_world.specs.declared.job.Host.{Host}
 use Rattle.kb_world.specs.declared.job.Report.{Report}
@@ -64,6 +64,19 @@ pub never_ready : (roots : Roots) (script : Script) (tree ready : Tree) (found :
 never_ready roots script tree ready found damage (at_rest none is nothing) = damage.stands none
 never_ready roots script tree ready found damage (recovers bytes exec intent there text is something) =
     damage.no_journal intent (record { bytes = bytes; exec = exec; stands = there; journal = text })
+
+-- a tree is ready as one tree
+one_ready : (roots : Roots) (script : Script) (tree a b : Tree) (found other : Option Intent) → IsReady roots script tree a found → IsReady roots script tree b other → a ≡ b
+one_ready roots script tree a b found other (at_rest none is nothing) second = is ∙ sym (ready_at_rest roots script tree b other none second).0
+one_ready roots script tree a b found other (recovers bytes exec intent there text is something) second =
+    is ∙ sym (ready_by roots script tree b other intent (record { bytes = bytes; exec = exec; stands = there; journal = text }) second).0
+
+-- the store that stands is its public tree
+pub stands_ready : (roots : Roots) (store : Tree) (state : State) (tree ready : Tree) (found : Option Intent) → state.tree ≡ Some tree → IsFormed tree → IsReady roots state.script tree ready found → Stands roots store state
+    → public_tree roots ready ≡ store
+stands_ready roots store state tree ready found told formed is stands =
+    let opened = stands.opens tree (subst (λ t. LeftOf state.history.soft t tree) (sym told) (record { each = λ q. inl refl; formed = formed })) in
+    ap (public_tree roots) (one_ready roots state.script tree ready opened.0 found opened.1 is opened.2) ∙ opened.3
 
 -- the tree that the recovery left shows what is ready, and its children ran
 record IsReadied (roots : Roots) (old mid : State) (tree ready : Tree) (found : Option Intent) (said : Option Recovered) : Type 0 where

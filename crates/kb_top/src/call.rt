@@ -16,11 +16,12 @@ use kb_world::{
 };
 use std::alloc::Global;
 
-/// Ends the transaction of a journal that stands, and then does the command that the words are. What it has to say goes
-/// to `out` and `err`, each written once and only where there is anything, after all its work is done. Refusals come in
-/// this order: what stands at the journal's path is damaged, the words are no command line, a name breaks its rule, a
-/// root that the command needs isn't a directory, the store is damaged or too large to be read, and then the command's
-/// own. Whenever a crash comes, the next call begins with one of the command's stores.
+/// Ends the transaction of a journal that stands, and then does the command that the words are. What
+/// it has to say goes to `out` and `err`, each written once and only where there is anything, after
+/// all its work is done. Refusals come in this order: what stands at the journal's path is damaged,
+/// the words are no command line, a name breaks its rule, a root that the command needs isn't a
+/// directory, the store is damaged or too large to be read, and then the command's own. Whenever a
+/// crash comes, the next call begins with one of the command's stores.
 pub fn run<W: World, O: Sink, E: Sink>(
     alloc: Global,
     words: &[Text],
@@ -30,8 +31,10 @@ pub fn run<W: World, O: Sink, E: Sink>(
     err: &mut E,
 ) -> End
     requires apart { AreApart host.now.roots }
-    requires rooted { ForSome (W.state world.old).tree (λ tree. (W.state world.old).roots ≡ host.now.roots) }
-    ensures { RunsCommand host.now words.now (record { world = W.state world.old; out = O.state out.old; err = E.state err.old })
+    requires rooted { ForSome (W.state world.old).tree (λ tree.
+        (W.state world.old).roots ≡ host.now.roots) }
+    ensures { RunsCommand host.now words.now
+        (record { world = W.state world.old; out = O.state out.old; err = E.state err.old })
         (record { world = W.state world.new; out = O.state out.new; err = E.state err.new }) result }
 {
     let mut report = Report {
@@ -53,8 +56,10 @@ pub fn start<W: World, O: Sink, E: Sink>(
     out: &mut O,
     err: &mut E,
 ) -> End
-    requires { (host : AHost) → IsHostOf setting.now host → ForSome (W.state world.old).tree (λ tree. (W.state world.old).roots ≡ host.roots) }
-    ensures { Starts setting.now words.now (record { world = W.state world.old; out = O.state out.old; err = E.state err.old })
+    requires { (host : AHost) → IsHostOf setting.now host → ForSome (W.state world.old).tree
+        (λ tree. (W.state world.old).roots ≡ host.roots) }
+    ensures { Starts setting.now words.now
+        (record { world = W.state world.old; out = O.state out.old; err = E.state err.old })
         (record { world = W.state world.new; out = O.state out.new; err = E.state err.new }) result }
 {
     match host_of(alloc, setting) {

@@ -2,7 +2,8 @@
 ghost use Rattle.std.specs.Prelude.{◌≡◌, ◌++◌, List, Option, option_map, codes, OnOk};
 ghost use Rattle.std.specs.List.{join_by};
 ghost use Rattle.kb_words.specs.Words.{Word};
-ghost use Rattle.kb_top.specs.Machine.{recovered_line, recovery_printed, recovery_warned, is_recovery};
+ghost use Rattle.kb_top.specs.Machine.{is_recovery, recovered_line, recovery_printed};
+ghost use Rattle.kb_top.specs.Machine.{recovery_warned};
 ghost use Rattle.kb_top.specs.Telling.{words_found, told_to};
 
 use kb_intent::Recovered;
@@ -61,13 +62,15 @@ fn push_warned(text: &mut Bytes, found: &Option<Recovered>) -> Result<(), AllocE
     }
 }
 
-/// Tells what a recovery found: on standard output where the words ask for a recovery, else on standard error.
+/// Tells what a recovery found: on standard output where the words ask for a recovery, else on
+/// standard error.
 pub fn tell_recovery(
     report: &mut Report,
     read: &Result<Command, Stop>,
     found: &Option<Recovered>,
 ) -> Result<(), AllocError>
-    ensures { OnOk result (report.new ≡ told_to (words_found found.now) (is_recovery read.now) report.old) }
+    ensures { OnOk result (report.new ≡ told_to (words_found found.now)
+        (is_recovery read.now) report.old) }
 {
     match read {
         Ok(Command::Recover) => push_printed(&mut report.out, found),

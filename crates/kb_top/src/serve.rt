@@ -106,10 +106,15 @@ fn add_to_store<W: World>(
     requires named { IsTrue (is_key key.now) }
     requires known { IsTrue (host_keeps_rules job.now.host) }
     requires apart { AreApart job.now.host.roots }
-    requires rooted { ForSome (W.state world.old).tree (λ tree. (W.state world.old).roots ≡ job.now.host.roots) }
-    requires root { ForSome (W.state world.old).tree (λ tree. is_dir (node_at tree job.now.host.roots.dkms) ≡ true) }
-    requires bare { ForSome (W.state world.old).tree (λ tree. node_at tree (intent_path job.now.host.roots) ≡ None) }
-    ensures { DoesAcrossCrashes job.now.host.roots (add_to_store job.now.host (W.state world.old).script key.now) (W.state world.old) (W.state world.new) report.old report.new result }
+    requires rooted { ForSome (W.state world.old).tree (λ tree.
+        (W.state world.old).roots ≡ job.now.host.roots) }
+    requires root { ForSome (W.state world.old).tree (λ tree. is_dir
+        (node_at tree job.now.host.roots.dkms) ≡ true) }
+    requires bare { ForSome (W.state world.old).tree (λ tree. node_at tree
+        (intent_path job.now.host.roots) ≡ None) }
+    ensures { DoesAcrossCrashes job.now.host.roots (add_to_store job.now.host
+        (W.state world.old).script key.now) (W.state world.old)
+        (W.state world.new) report.old report.new result }
 {
     let _store = match Store::read(alloc, world, &job.host.roots) {
         Ok(store) => store,
@@ -129,9 +134,13 @@ fn perform_add<W: World>(
     requires named { IsTrue (is_key key.now) }
     requires known { IsTrue (host_keeps_rules job.now.host) }
     requires apart { AreApart job.now.host.roots }
-    requires rooted { ForSome (W.state world.old).tree (λ tree. (W.state world.old).roots ≡ job.now.host.roots) }
-    requires bare { ForSome (W.state world.old).tree (λ tree. node_at tree (intent_path job.now.host.roots) ≡ None) }
-    ensures { DoesAcrossCrashes job.now.host.roots (perform_add job.now.host (W.state world.old).script key.now) (W.state world.old) (W.state world.new) report.old report.new result }
+    requires rooted { ForSome (W.state world.old).tree (λ tree.
+        (W.state world.old).roots ≡ job.now.host.roots) }
+    requires bare { ForSome (W.state world.old).tree (λ tree. node_at tree
+        (intent_path job.now.host.roots) ≡ None) }
+    ensures { DoesAcrossCrashes job.now.host.roots (perform_add job.now.host
+        (W.state world.old).script key.now) (W.state world.old)
+        (W.state world.new) report.old report.new result }
 {
     match require_roots_of_add(alloc, world, &job.host.roots) {
         Ok(()) => {}
@@ -151,9 +160,13 @@ fn perform<W: World>(
     requires named { words.names_keep_rules command.now ≡ true }
     requires known { IsTrue (host_keeps_rules job.now.host) }
     requires apart { AreApart job.now.host.roots }
-    requires rooted { ForSome (W.state world.old).tree (λ tree. (W.state world.old).roots ≡ job.now.host.roots) }
-    requires bare { ForSome (W.state world.old).tree (λ tree. node_at tree (intent_path job.now.host.roots) ≡ None) }
-    ensures { DoesAcrossCrashes job.now.host.roots (perform job.now.host (W.state world.old).script command.now) (W.state world.old) (W.state world.new) report.old report.new result }
+    requires rooted { ForSome (W.state world.old).tree (λ tree.
+        (W.state world.old).roots ≡ job.now.host.roots) }
+    requires bare { ForSome (W.state world.old).tree (λ tree. node_at tree
+        (intent_path job.now.host.roots) ≡ None) }
+    ensures { DoesAcrossCrashes job.now.host.roots (perform job.now.host
+        (W.state world.old).script command.now) (W.state world.old)
+        (W.state world.new) report.old report.new result }
 {
     match command {
         Command::Help => match report.out.push(help().as_bytes()) {
@@ -176,9 +189,13 @@ fn serve_words<W: World>(
     found: &Option<Recovered>,
 ) -> Result<(), Stop>
     requires apart { AreApart host.now.roots }
-    requires rooted { ForSome (W.state world.old).tree (λ tree. (W.state world.old).roots ≡ host.now.roots) }
-    requires bare { ForSome (W.state world.old).tree (λ tree. node_at tree (intent_path host.now.roots) ≡ None) }
-    ensures { DoesAcrossCrashes host.now.roots (machine host.now (W.state world.old).script words.now (words_found found.now)) (W.state world.old) (W.state world.new) report.old report.new result }
+    requires rooted { ForSome (W.state world.old).tree (λ tree.
+        (W.state world.old).roots ≡ host.now.roots) }
+    requires bare { ForSome (W.state world.old).tree (λ tree. node_at tree
+        (intent_path host.now.roots) ≡ None) }
+    ensures { DoesAcrossCrashes host.now.roots (machine host.now
+        (W.state world.old).script words.now (words_found found.now)) (W.state world.old)
+        (W.state world.new) report.old report.new result }
 {
     let read = read_words(alloc, words, host);
     match tell_recovery(report, &read, found) {
@@ -196,8 +213,8 @@ fn serve_words<W: World>(
     perform(alloc, world, &job, report, &command)
 }
 
-/// Ends the transaction of a journal that stands, and then does what the words say. A damaged journal is refused before
-/// the words are read.
+/// Ends the transaction of a journal that stands, and then does what the words say. A damaged journal
+/// is refused before the words are read.
 pub fn serve<W: World>(
     alloc: Global,
     words: &[Text],
@@ -206,8 +223,10 @@ pub fn serve<W: World>(
     report: &mut Report,
 ) -> Result<(), Stop>
     requires apart { AreApart host.now.roots }
-    requires rooted { ForSome (W.state world.old).tree (λ tree. (W.state world.old).roots ≡ host.now.roots) }
-    ensures { Serves host.now words.now (W.state world.old) (W.state world.new) report.old report.new result }
+    requires rooted { ForSome (W.state world.old).tree (λ tree.
+        (W.state world.old).roots ≡ host.now.roots) }
+    ensures { Serves host.now words.now (W.state world.old)
+        (W.state world.new) report.old report.new result }
 {
     match recover(alloc, world, &host.roots) {
         Ok(found) => serve_words(alloc, words, host, world, report, &found),
