@@ -18,4 +18,5 @@ pub mod FieldsLaws
 pub mod ChecksLaws
 pub mod MeaningLaws
 pub mod ConfLaws
+pub mod KeyLaws
 pub mod LoadLaws

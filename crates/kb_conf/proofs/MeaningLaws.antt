@@ -1,6 +1,6 @@
 -- What is computed of a text is what the grammar says of it.
-use Rattle.std.proofs.Common.{◌≡◌, ◌≢◌, ℕ, zero, suc, ◌+◌, ◌<◌, ◌≤◌, Bool, true, false, not, ◌&&◌, cond, List, [], ◌∷◌, ◌++◌, length, Option, Some, None, refl, sym, ap, ◌∙◌, subst, arith, nat_le}
-use Rattle.std.specs.Prelude.{Result, Ok, Err}
+use Rattle.std.proofs.Common.{◌≡◌, ℕ, zero, suc, ◌+◌, ◌<◌, ◌≤◌, Bool, true, false, not, ◌&&◌, cond, List, [], ◌∷◌, ◌++◌, length, Option, Some, None, refl, ap, ◌∙◌, arith, nat_le}
+use Rattle.std.specs.Prelude.{Ok, Err}
 use Rattle.std.proofs.lemmas.Bool.{leb-true, leb-false}
 use Rattle.std.proofs.lemmas.List.{length-append}
 use Rattle.kb_conf.specs.Signs.{equals_sign}
@@ -14,7 +14,7 @@ use Rattle.kb_conf.specs.Piece.{Piece, Mode, mode_after}
 use Rattle.kb_conf.specs.Place.{line_start, may_set}
 use Rattle.kb_conf.specs.Reading.{IsBadLine, IsFurthest, sound_len, line_number}
 use Rattle.kb_conf.specs.Value.{longest_value, Scope, scope, spell_pieces, at_start, gives, ends_item, is_short, IsShortValue}
-use Rattle.kb_conf.specs.Meaning.{Found, Said, Means, value_past, value_from, made_of, made_from, assignment_from, assignment_past, assignment_at, set_step, step_past, step_at, said_past, said_from, meaning_of}
+use Rattle.kb_conf.specs.Meaning.{Found, Said, Means, value_past, value_from, made_from, assignment_from, assignment_past, assignment_at, set_step, step_past, step_at, said_past, said_from, meaning_of}
 use Rattle.kb_conf.proofs.PieceLaws.{piece_shortens}
 use Rattle.kb_conf.proofs.ValueLaws.{Continues, continues_start, continues_step, too_long, value_done, value_broken}
 use Rattle.kb_conf.proofs.AssignmentLaws.{no_name, no_equals, no_value, the_assignment}

@@ -1,5 +1,5 @@
 -- What the engine's answer tells of the pattern that the grammar reads.
-use Rattle.std.proofs.Common.{◌≡◌, ◌≢◌, ℕ, ◌<◌, ◌≤◌, ◌⊎◌, Bool, true, false, List, Option, Some, None, IsSomeAnd, length, refl, sym, ap, ◌∙◌, subst, inl, inr, arith, cond, nat_le, All, is_some}
+use Rattle.std.proofs.Common.{◌≡◌, ◌≢◌, ℕ, ◌<◌, ◌≤◌, ◌⊎◌, false, List, Option, Some, None, IsSomeAnd, length, refl, sym, ap, ◌∙◌, inl, inr, arith, cond, nat_le, All, is_some}
 use Rattle.std.specs.Prelude.{IfSome, option_and_then, chars}
 use Rattle.std.specs.Option.{option_map_or}
 use Rattle.std.proofs.lemmas.Bool.Decides.{nat_tests}

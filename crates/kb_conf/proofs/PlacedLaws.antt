@@ -1,5 +1,5 @@
 -- Targets beside their places.
-use Rattle.std.proofs.Common.{◌≡◌, ℕ, zero, suc, ◌+◌, ◌<◌, Bool, true, false, List, [], ◌∷◌, ◌++◌, length, take, map, get_or, Option, Some, None, refl, sym, ap, ap₂, ◌∙◌, arith, lit<}
+use Rattle.std.proofs.Common.{◌≡◌, ℕ, zero, suc, ◌<◌, Bool, true, false, List, [], ◌∷◌, ◌++◌, length, take, map, get_or, refl, sym, ap, ap₂, ◌∙◌, arith}
 use Rattle.std.specs.Prelude.{◌&&◌, ◌||◌, bytes_eq, slice_get}
 use Rattle.std.specs.List.{list_any}
 use Rattle.std.proofs.lemmas.List.{take-map}
@@ -7,7 +7,7 @@ use Rattle.kb_world.specs.Path.{Path, is_under}
 use Rattle.kb_conf.specs.declared.targets.Placed.{Placed}
 use Rattle.kb_conf.specs.Values.{Values}
 use Rattle.kb_conf.specs.Targets.{target_place, collide, collides, bad_target}
-use Rattle.kb_conf.specs.Placed.{target_number, IsPlaced, ArePlaced, is_that_name}
+use Rattle.kb_conf.specs.Placed.{target_number, ArePlaced, is_that_name}
 
 swap_and : (a b c : Bool) → (a && (b && c)) ≡ (b && (a && c))
 swap_and true b c = refl

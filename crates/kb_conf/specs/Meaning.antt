@@ -1,5 +1,5 @@
 -- What a text says, computed. The grammar doesn't cite this: a law says that it is what the grammar says.
-use Rattle.std.specs.Prelude.{ℕ, zero, suc, ◌+◌, Bool, not, ◌&&◌, List, [], ◌∷◌, ◌++◌, Option, Some, None, option_map, option_and_then, Result, Ok, Err, length, nat_le, unwrap_or, if◌then◌else◌}
+use Rattle.std.specs.Prelude.{ℕ, zero, suc, ◌+◌, not, ◌&&◌, List, [], ◌∷◌, ◌++◌, Option, Some, None, option_map, Result, Ok, Err, length, nat_le, unwrap_or, if◌then◌else◌}
 use Rattle.kb_conf.specs.Signs.{equals_sign}
 use Rattle.kb_conf.specs.declared.place.Place.{Place}
 use Rattle.kb_conf.specs.Assignment.{Assignment, Given}

@@ -1,5 +1,5 @@
 -- The paths that values of a dkms.conf are. After dkms(8); the rule on their parts is this project's own.
-use Rattle.std.specs.Prelude.{ℕ, Bool, true, false, not, ◌&&◌, ◌||◌, List, [], ◌∷◌, filter, codes, bytes_eq, ◌==◌}
+use Rattle.std.specs.Prelude.{ℕ, Bool, false, not, ◌&&◌, ◌||◌, List, [], ◌∷◌, filter, codes, bytes_eq, ◌==◌}
 use Rattle.std.specs.List.{slice_split, list_all}
 use Rattle.std.specs.Str.{byte}
 use Rattle.kb_world.specs.Names.{is_word}

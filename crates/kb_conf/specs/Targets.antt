@@ -1,12 +1,12 @@
 -- The modules that a dkms.conf builds, and where each is installed. After dkms(8); the default place, the rule of
 -- the first letter, and that no two targets stand in each other's way are this project's own.
-use Rattle.std.specs.Prelude.{ℕ, Bool, true, false, not, ◌&&◌, ◌||◌, List, [], ◌∷◌, ◌++◌, Option, None, codes, bytes_eq, ◌==◌, if◌then◌else◌}
+use Rattle.std.specs.Prelude.{ℕ, Bool, false, not, ◌&&◌, ◌||◌, List, [], ◌∷◌, ◌++◌, Option, None, codes, bytes_eq, ◌==◌}
 use Rattle.std.specs.List.{list_any}
 use Rattle.std.specs.Option.{option_or}
 use Rattle.std.specs.Str.{byte}
 use Rattle.kb_world.specs.Path.{is_under}
 use Rattle.kb_conf.specs.declared.conf.Target.{Target}
-use Rattle.kb_conf.specs.Values.{Values, value_of, is_given, or_else, numbers_of}
+use Rattle.kb_conf.specs.Values.{Values, value_of, or_else, numbers_of}
 use Rattle.kb_conf.specs.PathValue.{path_parts}
 use Rattle.kb_conf.specs.Rule.{keeps}
 use Rattle.kb_conf.specs.declared.rule.Rule.TheVariants.{Word, Location, Destination}

@@ -1,11 +1,12 @@
 //! Reading the conf of a source directory.
-ghost use Rattle.std.specs.Prelude.{◌≡◌, ◌≤◌, IsTrue, Ok, length};
+ghost use Rattle.std.specs.Prelude.{◌≡◌, ◌≤◌, IfOk, IsTrue, Ok, length};
 ghost use Rattle.std.specs.Option.{ForSome, option_copied};
 ghost use Rattle.kb_conf.specs.Conf.{conf_of};
 ghost use Rattle.kb_conf.specs.Load as rule;
 ghost use Rattle.kb_conf.specs.Load.{GivesFile};
 ghost use Rattle.kb_world.specs.Read.{IsRead};
 ghost use Rattle.kb_world.specs.Does.{Decides, Gives};
+ghost use Rattle.kb_world.specs.Store.{is_key};
 ghost use Rattle.kb_world.specs.Tree.{node_at, is_file};
 
 use super::conf::Conf;
@@ -96,7 +97,7 @@ fn read_for(alloc: Global, bytes: &[u8], asked: Option<&Key>, given: &Given) -> 
 
 /// The conf of the source directory. Refused where the directory or its regular `dkms.conf` isn't there, where that
 /// is longer than a conf may be, as `read_conf` refuses its text, and then where a key is asked for and the conf is of
-/// another. It changes nothing.
+/// another. It changes nothing. The names of the package that the conf says it is of keep their rules.
 pub fn load_conf<W: World>(
     alloc: Global,
     world: &mut W,
@@ -104,8 +105,9 @@ pub fn load_conf<W: World>(
     key: Option<&Key>,
     given: &Given,
 ) -> Result<Conf, Stop>
-    ensures { Gives (rule.loaded_conf dir.now (option_copied key.entry) given.now) (W.state world.old)
+    ensures given { Gives (rule.loaded_conf dir.now (option_copied key.entry) given.now) (W.state world.old)
         (W.state world.new) result }
+    ensures named { IfOk result (λ conf. IsTrue (is_key conf.key)) }
 {
     let path = dir.child(alloc, "dkms.conf")?;
     require_source(alloc, world, dir, &path)?;

@@ -1,4 +1,4 @@
-use Rattle.std.proofs.Common.{refl, arith, sym, ◌∙◌}
+use Rattle.std.proofs.Common.{refl, arith}
 use Rattle.std.proofs.lemmas.Grind.{common_steps}
 use Rattle.kb_conf.specs.Fields.{last_that, make_matches}
 use Rattle.kb_conf.proofs.ListLaws.{last_more}

@@ -1,6 +1,5 @@
-use Rattle.std.proofs.Common.{ℕ, List, ◌<◌, Option, get_or, All, rules, subst, sym, ◌∙◌}
+use Rattle.std.proofs.Common.{ℕ, List, ◌<◌, get_or, All, subst}
 use Rattle.std.proofs.lemmas.List.{get_or_default}
-use Rattle.regex.specs.declared.string.regex.Regex.{Regex}
 use Rattle.kb_conf.specs.Built.{IsBuilt}
 use Rattle.kb_conf.proofs.PatternLaws.{finds, finds_nothing}
 use Rattle.kb_conf.proofs.pattern.matches.Goals as goal
