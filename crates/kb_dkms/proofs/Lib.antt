@@ -6,3 +6,4 @@ mod DoesAdd
 mod PrepareLaws
 mod ScriptLaws
 mod WantLaws
+pub mod TreeConf

@@ -1,4 +1,5 @@
 pub mod Add
+pub mod AddTree
 pub mod Commit
 pub mod Host
 pub mod Places

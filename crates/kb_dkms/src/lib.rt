@@ -2,6 +2,7 @@
 #![tactic(auto)]
 
 mod adding;
+mod copying;
 mod places;
 mod preparing;
 mod scripts;

@@ -1,0 +1,87 @@
+-- The action `dkms add` of a directory: its refusals in their order, its warnings, its transaction and its script. After
+-- dkms(8); which directories are no source, and the limits, are this project's own.
+use Rattle.std.specs.Prelude.{ℕ, Bool, true, false, cond, List, [], ◌∷◌, nat_lt, codes, Option, Some, None, is_some, option_map, Result, Ok, Err}
+use Rattle.std.specs.List.{list_any}
+use Rattle.kb_world.specs.Path.{Path, is_under}
+use Rattle.kb_world.specs.Tree.{Tree, node_at}
+use Rattle.kb_world.specs.TreeLaws.{same_path}
+use Rattle.kb_world.specs.Roots.{based_roots}
+use Rattle.kb_world.specs.Script.{Script}
+use Rattle.kb_world.specs.Store.{source_path}
+use Rattle.kb_world.specs.Steps.{add_tree_step}
+use Rattle.kb_world.specs.Outcome.{Action, unless, warn, reads, transaction, ◌or◌, ◌then◌}
+use Rattle.kb_world.specs.declared.roots.Roots.{Roots}
+use Rattle.kb_world.specs.declared.job.Key.{Key}
+use Rattle.kb_world.specs.declared.job.Host.{Host}
+use Rattle.kb_world.specs.declared.refusal.Refusal.{Refusal}
+use Rattle.kb_world.specs.declared.refusal.Refusal.TheVariants as refusal
+use Rattle.kb_world.specs.declared.tree.Kind.{Kind}
+use Rattle.kb_world.specs.declared.tree.Kind.TheVariants as kind
+use Rattle.kb_walk.specs.Walking.{LIMITS, walked}
+use Rattle.kb_walk.specs.declared.walking.Met.{Met}
+use Rattle.kb_conf.specs.declared.conf.Conf.{Conf}
+use Rattle.kb_conf.specs.Load.{loaded_conf}
+use Rattle.kb_dkms.specs.Add.{already_added, unused_lines, blocked, added_line, add}
+use Rattle.kb_dkms.specs.Scripts.{host_given, run_script}
+
+-- ---- the directory
+
+-- a root is at or under it
+abbrev pub holds_root : Roots → Path → Bool
+holds_root roots from = list_any (λ root. is_under root from) (roots.boot ∷ based_roots roots)
+
+-- its conf, or the first refusal of it: a directory that holds a root is no source
+abbrev pub tree_conf : Host → Path → Tree → Result Conf Refusal
+tree_conf host from whole = cond (holds_root host.roots from) (Err (refusal.NoSource from)) (loaded_conf from None (host_given host) whole)
+
+-- something stands at the package's source, where it is to be copied
+abbrev pub source_there : Path → Tree → Option Refusal
+source_there source whole = cond (is_some (node_at whole source)) (Some (refusal.SourceThere source)) None
+
+-- ---- its entries
+
+-- what a walk meets below it, up to the first entry that passes a limit
+abbrev pub met_below : Path → Tree → List Met
+met_below from whole = (walked LIMITS whole (λ path. false) from).met
+
+abbrev pub too_many : Path → Tree → Option Refusal
+too_many from whole = option_map refusal.TooMany (walked LIMITS whole (λ path. false) from).over
+
+-- a file of more than 256 MiB
+abbrev pub is_too_large : Kind → Bool
+is_too_large (kind.File len exec) = nat_lt 268435456 len
+is_too_large kind.Absent = false
+is_too_large kind.Dir = false
+is_too_large kind.Link = false
+
+-- the first of these files that is too large to be copied
+abbrev pub first_too_large : List Met → Option Path
+first_too_large [] = None
+first_too_large (met ∷ later) = cond (is_too_large met.kind) (Some met.path) (first_too_large later)
+
+abbrev pub too_large : Path → Tree → Option Refusal
+too_large from whole = option_map refusal.TooLarge (first_too_large (met_below from whole))
+
+-- ---- the action
+
+-- what refuses the copy, behind the conf
+abbrev pub no_copy : Roots → Key → Path → Tree → Option Refusal
+no_copy roots key from = already_added roots key or source_there (source_path roots key) or too_many from or too_large from or blocked roots key
+
+-- the transaction, its line, and the script that the conf names for it, which runs in the copy
+abbrev pub copy_and_run : Host → Script → Path → Conf → Action
+copy_and_run host script from conf =
+    reads Ok (λ whole. transaction (add_tree_step host.roots conf.key from whole) (added_line conf.key)
+    then run_script host.roots script (host_given host) conf.key (codes "POST_ADD") conf.scripts.post_add)
+
+-- what follows once the conf of a directory that isn't the package's source is read
+abbrev pub add_copy : Host → Script → Path → Conf → Action
+add_copy host script from conf = warn (unused_lines conf.unused) then (unless (no_copy host.roots conf.key from) then copy_and_run host script from conf)
+
+-- the package's own source is added as the package is
+abbrev pub add_tree_with : Host → Script → Path → Conf → Action
+add_tree_with host script from conf = cond (same_path from (source_path host.roots conf.key)) (add host script conf.key) (add_copy host script from conf)
+
+-- `dkms add` of a directory: what it is the source of is said by its conf
+abbrev pub add_tree : Host → Script → Path → Action
+add_tree host script from = reads (tree_conf host from) (add_tree_with host script from)
