@@ -99,18 +99,25 @@ fn walk_source<W: World>(
     }
 }
 
+fn is_too_large(kind: Kind) -> bool
+    ensures { result ≡ action.is_too_large kind }
+{
+    match kind {
+        Kind::File { len, .. } => len > LARGEST_FILE,
+        Kind::Absent | Kind::Dir | Kind::Link => false,
+    }
+}
+
 // Refused at the first file that is too large to be copied.
 fn require_small(met: &[Met]) -> Result<(), Stop>
     ensures agrees { Agrees result (option_map refusal.TooLarge (action.first_too_large met.now)) }
     ensures faultless { IsErrOf result Fault → ⊥ }
 {
     for entry in met {
-        if let Kind::File { len, .. } = entry.kind {
-            if len > LARGEST_FILE {
-                return Err(Stop::Refused(Refusal::TooLarge {
-                    path: entry.path.clone()?,
-                }));
-            }
+        if is_too_large(entry.kind) {
+            return Err(Stop::Refused(Refusal::TooLarge {
+                path: entry.path.clone()?,
+            }));
         }
     }
     Ok(())

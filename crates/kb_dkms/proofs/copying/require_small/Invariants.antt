@@ -2,5 +2,5 @@ use Rattle.std.proofs.Common.{◌≡◌, drop}
 use Rattle.kb_dkms.specs.AddTree as action
 use Rattle.kb_dkms.proofs.copying.require_small.Given as goal
 
-pub invariant-loop-entry : goal.invariant-loop-entry
-invariant-loop-entry l = action.first_too_large l.met.now ≡ action.first_too_large (drop l.entry-index l.met.now)
+abbrev pub invariant-loop-entry : goal.invariant-loop-entry
+invariant-loop-entry l = action.first_too_large l.met ≡ action.first_too_large (drop l.entry-index l.met)
