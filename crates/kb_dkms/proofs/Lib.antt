@@ -6,4 +6,6 @@ mod DoesAdd
 mod PrepareLaws
 mod ScriptLaws
 mod WantLaws
+pub mod CopyLaws
+pub mod DecideLaws
 pub mod TreeConf

@@ -64,9 +64,17 @@ too_large from whole = option_map refusal.TooLarge (first_too_large (met_below f
 
 -- ---- the action
 
+-- the package is added already, or something stands at its source
+abbrev pub package_there : Roots → Key → Tree → Option Refusal
+package_there roots key = already_added roots key or source_there (source_path roots key)
+
+-- more is below the directory, or more is in a file there, than is copied
+abbrev pub too_much : Path → Tree → Option Refusal
+too_much from = too_many from or too_large from
+
 -- what refuses the copy, behind the conf
 abbrev pub no_copy : Roots → Key → Path → Tree → Option Refusal
-no_copy roots key from = already_added roots key or source_there (source_path roots key) or too_many from or too_large from or blocked roots key
+no_copy roots key from = package_there roots key or too_much from or blocked roots key
 
 -- the transaction, its line, and the script that the conf names for it, which runs in the copy
 abbrev pub copy_and_run : Host → Script → Path → Conf → Action

@@ -123,6 +123,50 @@ fn require_small(met: &[Met]) -> Result<(), Stop>
     Ok(())
 }
 
+// Refused where the package is added already, and where something stands at its source.
+fn require_no_package<W: World>(
+    alloc: Global,
+    world: &mut W,
+    source: Source<'_>,
+) -> Result<(), Stop>
+    requires named { IsTrue (is_key source.key.now) }
+    requires apart { AreApart source.job.now.host.roots }
+    requires places { source.places.now ≡ package_places source.job.now.host.roots source.key.now }
+    requires sound { ForSome (W.state world.old).tree (λ tree.
+        hurt source.job.now.host.roots (public.public_tree source.job.now.host.roots tree) ≡ None) }
+    ensures { Decides (λ tree. action.package_there source.entry.job.now.host.roots source.entry.key.now
+        (whole_tree source.entry.job.now.host.roots tree)) (W.state world.old) (W.state world.new) result }
+{
+    match require_unadded(alloc, world, source.key, &source.places.link) {
+        Ok(()) => require_free(alloc, world, &source.places.source),
+        Err(stop) => Err(stop),
+    }
+}
+
+// What stands below the directory. Refused where that is more than is copied.
+fn meet_small<W: World>(
+    alloc: Global,
+    world: &mut W,
+    roots: &Roots,
+    from: &Path,
+) -> Result<Sequence<Met>, Stop>
+    requires own { public.is_private roots.now from.now ≡ false }
+    requires directory { ForSome (W.state world.old).tree (λ tree. is_dir (node_at tree from.now) ≡ true) }
+    ensures decides { Decides (λ tree. action.too_much from.now (whole_tree roots.now tree))
+        (W.state world.old) (W.state world.new) result }
+    ensures met { IfOk result (λ met. ForSome (W.state world.old).tree (λ tree.
+        met ≡ action.met_below from.now (whole_tree roots.now tree))) }
+{
+    let met = match walk_source(alloc, world, roots, from) {
+        Ok(met) => met,
+        Err(stop) => return Err(stop),
+    };
+    match require_small(met.as_slice()) {
+        Ok(()) => Ok(met),
+        Err(stop) => Err(stop),
+    }
+}
+
 /// What stands below a directory that is to be copied to the package's source, in the order of paths. Refused where the
 /// package is added already, where something stands at its source, where there is more below the directory than a walk
 /// may meet, at the first file that is too large, and where a file or a link stands where the package's link needs a
@@ -145,10 +189,16 @@ pub(crate) fn meet_source<W: World>(
     ensures met { IfOk result (λ met. ForSome (W.state world.old).tree (λ tree.
         met ≡ action.met_below from.now (whole_tree source.entry.job.now.host.roots tree))) }
 {
-    require_unadded(alloc, world, source.key, &source.places.link)?;
-    require_free(alloc, world, &source.places.source)?;
-    let met = walk_source(alloc, world, &source.job.host.roots, from)?;
-    require_small(met.as_slice())?;
-    require_unblocked(alloc, world, source.places)?;
-    Ok(met)
+    match require_no_package(alloc, world, source) {
+        Ok(()) => {}
+        Err(stop) => return Err(stop),
+    }
+    let met = match meet_small(alloc, world, &source.job.host.roots, from) {
+        Ok(met) => met,
+        Err(stop) => return Err(stop),
+    };
+    match require_unblocked(alloc, world, source.places) {
+        Ok(()) => Ok(met),
+        Err(stop) => Err(stop),
+    }
 }
