@@ -2,7 +2,7 @@
 use Rattle.std.proofs.Common.{◌≡◌, ℕ, Bool, true, false, ◌&&◌, ◌||◌, cond, List, [], ◌∷◌, ◌++◌, length, drop, Option, Some, None, refl, sym, ap, ◌∙◌, subst, inl, inr, ◌⊎◌, reverse, append_assoc}
 use Rattle.std.proofs.lemmas.Bool.{cases_Bool, true≢false}
 use Rattle.std.proofs.lemmas.List.{reverse-append}
-use Rattle.std.specs.Prelude.{Result, Ok, Err, codes, bytes_eq}
+use Rattle.std.specs.Prelude.{Result, Ok, Err, IfOk, codes, bytes_eq}
 use Rattle.std.specs.Cmp.{first_so, second_so}
 use Rattle.std.specs.Cmp.Lexicographic.{bytes_decides}
 use Rattle.std.specs.List.{list_any, AllByRecursion}
@@ -172,3 +172,9 @@ reads_directory host from given old new result is h g = record {
   unchanged = g.unchanged;
   cause = g.cause;
 }
+
+-- what is read isn't the tool's own
+pub not_own : {A : Type 0} (result : Result A Stop) (holds own : Bool) → (holds || own) ≡ false → IfOk result (λ conf. own ≡ false)
+not_own (Ok conf) false own e = e
+not_own (Ok conf) true own e = let impossible : true ≡ false = e in cc
+not_own (Err stop) holds own e = tt

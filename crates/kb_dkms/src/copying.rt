@@ -57,6 +57,7 @@ pub(crate) fn load_tree_conf<W: World>(
     ensures read { Gives (λ tree. action.tree_conf job.now.host from.now (whole_tree job.now.host.roots tree))
         (W.state world.old) (W.state world.new) result }
     ensures named { IfOk result (λ conf. IsTrue (is_key conf.key)) }
+    ensures own { IfOk result (λ conf. public.is_private job.now.host.roots from.now ≡ false) }
 {
     if is_no_source(&job.host.roots, from) {
         return Err(Stop::Refused(Refusal::NoSource {
