@@ -14,3 +14,5 @@ pub mod PatchValid
 pub mod RunLaws
 pub mod SetLaws
 pub mod StepLaws
+pub mod TreeFits
+pub mod TreePatch

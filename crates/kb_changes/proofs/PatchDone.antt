@@ -19,14 +19,14 @@ use Rattle.kb_world.specs.declared.roots.Roots.{Roots}
 use Rattle.kb_world.specs.declared.tree.Node.{Node}
 use Rattle.kb_world.specs.declared.tree.Node.TheVariants as node
 use Rattle.kb_world.proofs.PathLaws.{by_test}
-use Rattle.kb_world.proofs.PublicLaws.{node_at-public_tree}
+use Rattle.kb_world.proofs.PublicLaws.{node_at-public_tree, shown}
 use Rattle.kb_world.proofs.AboveLaws.{AreAll, all-append, all-filter, each-listed}
 use Rattle.kb_world.proofs.ListedLaws.{listed-append, neither}
 use Rattle.kb_world.proofs.OrderLaws.{in_order_rises, any-found, any-of}
-use Rattle.kb_world.proofs.PatchLaws.{all_dropped-at, all_wiped-at, with_directories-at, with_nodes-at}
+use Rattle.kb_world.proofs.PatchLaws.{all_dropped-at, all_wiped-at, with_directories-at, with_nodes-at, patched-dir}
 use Rattle.kb_changes.specs.Change.{root_path, staged_path, do_change, done}
 use Rattle.kb_changes.specs.Changes.{numbered_puts, drops_of, scratches, changes_of, nodes_below, staged_below, nodes_of, HasStaged}
-use Rattle.kb_changes.specs.Fit.{is_rooted, IsInOwnRoot, IsFitPut, IsFit}
+use Rattle.kb_changes.specs.Fit.{is_rooted, IsInOwnRoot, IsFitDir, IsFitPut, IsFit}
 use Rattle.kb_changes.specs.Valid.{written_roots}
 use Rattle.kb_changes.specs.declared.change.Change.{Change}
 use Rattle.kb_changes.specs.declared.change.Change.TheVariants.{Dir, Drop, DropDir, Wipe}
@@ -43,7 +43,7 @@ untrue : false ≡ true → ⊥
 untrue e = cc
 
 -- what holds of each path that is listed holds of all
-all_listed : (P : Path → Type 0) (paths : List Path) → ((q : Path) → is_listed q paths ≡ true → P q) → AllByRecursion P paths
+pub all_listed : (P : Path → Type 0) (paths : List Path) → ((q : Path) → is_listed q paths ≡ true → P q) → AllByRecursion P paths
 all_listed P [] each = tt
 all_listed P (path ∷ paths) each =
     (each path (ap (λ b. b || is_listed path paths) (same_path-refl path)), all_listed P paths (λ q listed. each q (or_right (same_path q path) (is_listed q paths) listed)))
@@ -359,3 +359,13 @@ module _ (roots : Roots) (apart : AreApart roots) (script : Script) (patch : Pat
       (all_listed (λ path. (q : Path) → is_under q path ≡ true → IsNeverForeign roots q) (scratches roots emptied)
       (λ path listed q under. private-own roots q (scratch_private roots emptied q (any-of (is_under q) (scratches roots emptied) path under listed)))))
       ∙ all_dropped-foreign roots (drops_of patch) tree drops_open
+
+  -- a directory that is made stands then, unless it is one that would go
+  pub made_done : (q : Path) → is_listed q (dirs_of roots patch) ≡ true → is_listed q (emptied_of roots patch) ≡ false → is_dir (node_at (done roots script (changes_of roots patch) tree) q) ≡ true
+  made_done q listed stays =
+      ap is_dir (sym (shown roots (done roots script (changes_of roots patch) tree) q fits.opens) ∙ ap (λ t. node_at t q) patch_done
+      ∙ patched-dir roots patch (public_tree roots tree) q listed
+      (ap (λ at. is_leaf (cond (list_any (is_under q) patch.wipes || is_listed q patch.drops && is_leaf at) None at)) (shown roots tree q fits.opens) ∙ fits.free) (no_target q listed) stays)
+    where
+      fits : IsFitDir roots patch tree q
+      fits = fit.dirs q listed

@@ -1,11 +1,11 @@
 -- What the laws of patches ask for is met.
-use Rattle.std.proofs.Common.{◌≡◌, ◌⊎◌, zero, suc, Bool, true, false, cond, ◌&&◌, ◌||◌, not, [], ◌∷◌, ◌++◌, length, Option, Some, None, is_some, codes, refl, sym, ap, ◌∙◌, inl, inr, arith, length-append, append_assoc}
+use Rattle.std.proofs.Common.{◌≡◌, ◌⊎◌, zero, suc, Bool, true, false, cond, ◌&&◌, ◌||◌, not, List, [], ◌∷◌, ◌++◌, length, Option, Some, None, is_some, codes, refl, sym, ap, ◌∙◌, inl, inr, arith, length-append, append_assoc, append-nil}
 use Rattle.std.specs.List.{list_any}
 use Rattle.std.specs.Option.{option_or}
 use Rattle.std.specs.FinMap.{empty}
 use Rattle.std.specs.Cmp.Derive.{both_true}
 use Rattle.kb_world.specs.Path.{Path, parent}
-use Rattle.kb_world.specs.Patch.{Patch, above, dirs_of, in_order, is_listed, left_at}
+use Rattle.kb_world.specs.Patch.{Patch, above, dirs_of, in_order, is_listed}
 use Rattle.kb_world.specs.Public.{IsAlwaysPublic, staging_path}
 use Rattle.kb_world.specs.Roots.{AreApart, is_below, roots_under}
 use Rattle.kb_world.specs.Steps.{blocking, add_patch, add_blocked}
@@ -43,24 +43,59 @@ module _ (roots : Roots) (apart : AreApart roots) (key : Key) (named : is_key ke
   link_open : IsAlwaysPublic roots (link_path roots key)
   link_open = public_place roots apart (SourceLink key) named refl
 
-  link_below : is_below (link_path roots key) roots.dkms ≡ true
+  pub link_below : is_below (link_path roots key) roots.dkms ≡ true
   link_below = below-append roots.dkms key.module (key.version ∷ codes "source" ∷ [])
 
-  -- the two directories that are made
-  made : (q : Path) → is_listed q (dirs_of roots patch) ≡ true → (q ≡ module_path roots key) ⊎ (q ≡ version_path roots key)
-  made q listed = by (either (same_path q (module_path roots key)) _ (ap (λ paths. is_listed q ((paths ++ []) ++ [])) (sym above_link) ∙ sym (listed-in_order q ((above roots (link_path roots key) ++ []) ++ [])) ∙ listed))
+  pub link_own : IsInOwnRoot roots (link_path roots key)
+  link_own = record { opens = link_open; placed = ap (λ b. b || list_any (is_below (link_path roots key)) (roots.src ∷ roots.modules ∷ [])) link_below }
+
+  -- the two directories above the link
+  abbrev pub IsAboveLink : Path → Type 0
+  IsAboveLink q = (q ≡ module_path roots key) ⊎ (q ≡ version_path roots key)
+
+  pub above_link : (q : Path) → is_listed q (above roots (link_path roots key)) ≡ true → IsAboveLink q
+  above_link q listed = by (either (same_path q (module_path roots key)) _ (ap (is_listed q) (sym are_two) ∙ listed))
     where
-      above_link : above roots (link_path roots key) ≡ module_path roots key ∷ version_path roots key ∷ []
-      above_link =
+      are_two : above roots (link_path roots key) ≡ module_path roots key ∷ version_path roots key ∷ []
+      are_two =
           above-dkms roots (key.module ∷ key.version ∷ codes "source" ∷ [])
           ∙ ap (λ p. module_path roots key ∷ p ∷ []) (append_assoc roots.dkms (key.module ∷ []) (key.version ∷ []))
 
-      by : (same_path q (module_path roots key) ≡ true) ⊎ (is_listed q (version_path roots key ∷ []) ≡ true) → (q ≡ module_path roots key) ⊎ (q ≡ version_path roots key)
+      by : (same_path q (module_path roots key) ≡ true) ⊎ (is_listed q (version_path roots key ∷ []) ≡ true) → IsAboveLink q
       by (inl s) = inl (same_path-true q (module_path roots key) s)
       by (inr more) = inr (same_path-true q (version_path roots key) (elim (either (same_path q (version_path roots key)) false more) [ inl s ↦ s | inr none ↦ absurd (untrue none) ]))
 
-  link_own : IsInOwnRoot roots (link_path roots key)
-  link_own = record { opens = link_open; placed = ap (λ b. b || list_any (is_below (link_path roots key)) (roots.src ∷ roots.modules ∷ [])) link_below }
+  pub link_longer : IsAboveLink (link_path roots key) → ⊥
+  link_longer (inl e) = absurd (omega (arith, ap length e, length-append roots.dkms (key.module ∷ []), length-append roots.dkms (key.module ∷ key.version ∷ codes "source" ∷ [])))
+  link_longer (inr e) = absurd (omega (arith, ap length e, length-append roots.dkms (key.module ∷ key.version ∷ []), length-append roots.dkms (key.module ∷ key.version ∷ codes "source" ∷ [])))
+
+  -- where Add isn't blocked, no file or link stands at these
+  pub unblocked_leafless : (tree : Tree) → add_blocked roots key tree ≡ None → (q : Path) → IsAboveLink q → is_leaf (node_at tree q) ≡ false
+  unblocked_leafless tree free q over = by over
+    where
+      leafless : (path : Path) (at : Option Node) → cond (is_some at) (cond (is_dir at) None (Some path)) None ≡ None → is_leaf at ≡ false
+      leafless path None e = refl
+      leafless path (Some node.Dir) e = refl
+      leafless path (Some (node.File bytes exec)) e = let impossible : Some path ≡ None = e in absurd (cc)
+      leafless path (Some (node.Link text)) e = let impossible : Some path ≡ None = e in absurd (cc)
+
+      first_none : (a b : Option Path) → option_or a b ≡ None → (a ≡ None) × (b ≡ None)
+      first_none None b e = (refl, e)
+      first_none (Some x) b e = let impossible : Some x ≡ None = e in absurd (cc)
+
+      both : (blocking (module_path roots key) tree ≡ None) × (blocking (version_path roots key) tree ≡ None)
+      both = first_none (blocking (module_path roots key) tree) (blocking (version_path roots key) tree) free
+
+      by : IsAboveLink q → is_leaf (node_at tree q) ≡ false
+      by (inl is) = ap (λ p. is_leaf (node_at tree p)) is ∙ leafless (module_path roots key) (node_at tree (module_path roots key)) both.0
+      by (inr is) = ap (λ p. is_leaf (node_at tree p)) is ∙ leafless (version_path roots key) (node_at tree (version_path roots key)) both.1
+
+  -- no other directory is made
+  made : (q : Path) → is_listed q (dirs_of roots patch) ≡ true → IsAboveLink q
+  made q listed = above_link q (no_more (above roots (link_path roots key)) (sym (listed-in_order q ((above roots (link_path roots key) ++ []) ++ [])) ∙ listed))
+    where
+      no_more : (paths : List Path) → is_listed q ((paths ++ []) ++ []) ≡ true → is_listed q paths ≡ true
+      no_more paths e = sym (ap (is_listed q) (append-nil (paths ++ []) ∙ append-nil paths)) ∙ e
 
   made_own : (q : Path) → is_listed q (dirs_of roots patch) ≡ true → IsInOwnRoot roots q
   made_own q listed = dirs_own roots apart patch (link_own, tt) q listed
@@ -69,7 +104,7 @@ module _ (roots : Roots) (apart : AreApart roots) (key : Key) (named : is_key ke
   add_stands = record {
     drops = tt;
     wipes = tt;
-    comes = (record { opens = link_open; placed = (own_placed roots apart (link_path roots key) link_own).placed }, tt);
+    comes = (own_placed roots apart (link_path roots key) link_own, tt);
     dirs = by_test (list_any (is_initrd roots) (dirs_of roots patch)) (λ e.
         let found = any-found (is_initrd roots) (dirs_of roots patch) e in
         untrue (sym (own_no_initrd roots apart found.0 (made_own found.0 found.2)) ∙ found.1));
@@ -84,32 +119,11 @@ module _ (roots : Roots) (apart : AreApart roots) (key : Key) (named : is_key ke
     formed = formed;
     drops = tt;
     wipes = tt;
-    dirs = λ q listed. record { opens = (made_own q listed).opens; free = no_leaf q (made q listed) };
-    puts = (record { opens = link_open; leaf = refl; free = no_dir; no_dir = by_test (is_listed (link_path roots key) (dirs_of roots patch)) (λ listed. longer (made (link_path roots key) listed)) }, tt);
+    dirs = λ q listed. record { opens = (made_own q listed).opens; free = unblocked_leafless tree free q (made q listed) };
+    puts = (record { opens = link_open; leaf = refl; free = no_dir; no_dir = by_test (is_listed (link_path roots key) (dirs_of roots patch)) (λ listed. link_longer (made (link_path roots key) listed)) }, tt);
     rooted = (ap (λ b. b || list_any (λ root. is_below (link_path roots key) root && is_dir (node_at tree root)) (roots.src ∷ roots.modules ∷ roots.boot ∷ [])) (both_true link_below dkms), tt);
     counted = omega arith;
   }
-    where
-      longer : (link_path roots key ≡ module_path roots key) ⊎ (link_path roots key ≡ version_path roots key) → ⊥
-      longer (inl e) = absurd (omega (arith, ap length e, length-append roots.dkms (key.module ∷ []), length-append roots.dkms (key.module ∷ key.version ∷ codes "source" ∷ [])))
-      longer (inr e) = absurd (omega (arith, ap length e, length-append roots.dkms (key.module ∷ key.version ∷ []), length-append roots.dkms (key.module ∷ key.version ∷ codes "source" ∷ [])))
-
-      leafless : (path : Path) (at : Option Node) → cond (is_some at) (cond (is_dir at) None (Some path)) None ≡ None → is_leaf at ≡ false
-      leafless path None e = refl
-      leafless path (Some node.Dir) e = refl
-      leafless path (Some (node.File bytes exec)) e = let impossible : Some path ≡ None = e in absurd (cc)
-      leafless path (Some (node.Link text)) e = let impossible : Some path ≡ None = e in absurd (cc)
-
-      first_none : (a b : Option Path) → option_or a b ≡ None → (a ≡ None) × (b ≡ None)
-      first_none None b e = (refl, e)
-      first_none (Some x) b e = let impossible : Some x ≡ None = e in absurd (cc)
-
-      both : (blocking (module_path roots key) tree ≡ None) × (blocking (version_path roots key) tree ≡ None)
-      both = first_none (blocking (module_path roots key) tree) (blocking (version_path roots key) tree) free
-
-      no_leaf : (q : Path) → (q ≡ module_path roots key) ⊎ (q ≡ version_path roots key) → is_leaf (left_at patch tree q) ≡ false
-      no_leaf q (inl is) = ap (λ p. is_leaf (node_at tree p)) is ∙ leafless (module_path roots key) (node_at tree (module_path roots key)) both.0
-      no_leaf q (inr is) = ap (λ p. is_leaf (node_at tree p)) is ∙ leafless (version_path roots key) (node_at tree (version_path roots key)) both.1
 
 -- ---- a tree that it fits
 

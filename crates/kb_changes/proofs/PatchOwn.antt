@@ -15,14 +15,14 @@ use Rattle.kb_world.specs.declared.roots.Roots.{Roots}
 use Rattle.kb_world.specs.declared.tree.Node.{Node}
 use Rattle.kb_world.proofs.PathLaws.{under-self, by_test}
 use Rattle.kb_world.proofs.AboveLaws.{above-below, each-listed}
-use Rattle.kb_world.proofs.ListedLaws.{or_first, or_second, listed-append, listed-in_order}
+use Rattle.kb_world.proofs.ListedLaws.{or_first, or_second, listed-append}
 use Rattle.kb_world.proofs.OrderLaws.{any-found, any-of}
 use Rattle.kb_changes.specs.Change.{root_path}
 use Rattle.kb_changes.specs.Changes.{root_of}
 use Rattle.kb_changes.specs.Fit.{IsInOwnRoot, IsPlacedPath}
 use Rattle.kb_changes.specs.Valid.{written_roots, new_intent_path, is_kept_out, is_initrd, is_initrd_name}
 use Rattle.kb_changes.specs.declared.change.RootName.{RootName}
-use Rattle.kb_changes.proofs.PatchParents.{either, found-flat_map, rooted_at, directories-over}
+use Rattle.kb_changes.proofs.PatchParents.{found-flat_map, dir_from, rooted_at, directories-over}
 use Rattle.kb_changes.proofs.PatchPuts.{root-under, open_no_private}
 use Rattle.kb_changes.proofs.PatchPlaces.{under-trans, private_down, listed_root, public_there, wipe_place}
 
@@ -99,7 +99,7 @@ module _ (roots : Roots) (apart : AreApart roots) where
       one = here.1 ∙ ap (root_path roots) (sym here.2 ∙ there.2) ∙ sym there.1
 
   pub dirs_own : (patch : Patch) → AllByRecursion (IsInOwnRoot roots) (patch.dirs ++ map (λ put. put.0) patch.puts) → (q : Path) → is_listed q (dirs_of roots patch) ≡ true → IsInOwnRoot roots q
-  dirs_own patch own q listed = by (either (is_listed q (flat_map (above roots) sources)) (is_listed q patch.dirs) (sym (listed-append q (flat_map (above roots) sources) patch.dirs) ∙ sym (listed-in_order q (flat_map (above roots) sources ++ patch.dirs)) ∙ listed))
+  dirs_own patch own q listed = by (dir_from roots patch q listed)
     where
       targets : List Path
       targets = map (λ (put : Path × Node). put.0) patch.puts

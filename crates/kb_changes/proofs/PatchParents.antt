@@ -25,7 +25,7 @@ use Rattle.kb_world.proofs.PatchLaws.{with_directories-at}
 use Rattle.kb_world.proofs.AboveLaws.{above-below, each-listed}
 use Rattle.kb_world.proofs.PublicLaws.{WrittenApart, written_apart}
 use Rattle.kb_changes.specs.Change.{do_change, done}
-use Rattle.kb_changes.specs.Fit.{is_rooted}
+use Rattle.kb_changes.specs.Fit.{is_rooted, coming_paths}
 use Rattle.kb_changes.specs.Valid.{written_roots}
 use Rattle.kb_changes.specs.declared.change.Change.TheVariants.{Dir}
 
@@ -272,6 +272,12 @@ in-flat_map f (o ∷ paths) p q e h = by (either (same_path p o) (is_listed p pa
     by (inl s) more = listed-append q (f o) (flat_map f paths) ∙ ap (λ b. b || is_listed q (flat_map f paths)) (ap (λ x. is_listed q (f x)) (sym (same_path-true p o s)) ∙ h)
     by (inr later) more = listed-append q (f o) (flat_map f paths) ∙ or_right (is_listed q (f o)) (is_listed q (flat_map f paths)) (more later)
 
+-- a directory that is made stands above what comes, or comes of itself
+pub dir_from : (roots : Roots) (patch : Patch) (q : Path) → is_listed q (dirs_of roots patch) ≡ true → (is_listed q (flat_map (above roots) (coming_paths patch)) ≡ true) ⊎ (is_listed q patch.dirs ≡ true)
+dir_from roots patch q listed =
+    let above_it = flat_map (above roots) (coming_paths patch) in
+    either (is_listed q above_it) (is_listed q patch.dirs) (sym (listed-append q above_it patch.dirs) ∙ sym (listed-in_order q (above_it ++ patch.dirs)) ∙ listed)
+
 module _ (roots : Roots) (apart : AreApart roots) (patch : Patch) (tree : Tree) (rooted : AllByRecursion (λ path. is_rooted roots tree path ≡ true) (patch.dirs ++ map (λ put. put.0) patch.puts)) where
   abbrev sources : List Path
   sources = patch.dirs ++ map (λ put. put.0) patch.puts
@@ -296,7 +302,7 @@ module _ (roots : Roots) (apart : AreApart roots) (patch : Patch) (tree : Tree) 
     pub over : is_below q (parent q) ≡ true
 
   pub dir_place : (q : Path) → is_listed q (dirs_of roots patch) ≡ true → DirPlace q
-  dir_place q listed = by (either (is_listed q (flat_map (above roots) sources)) (is_listed q patch.dirs) (sym (listed-append q (flat_map (above roots) sources) patch.dirs) ∙ sym (listed-in_order q (flat_map (above roots) sources ++ patch.dirs)) ∙ listed))
+  dir_place q listed = by (dir_from roots patch q listed)
     where
       by : (is_listed q (flat_map (above roots) sources) ≡ true) ⊎ (is_listed q patch.dirs ≡ true) → DirPlace q
       by (inl made) =

@@ -20,7 +20,7 @@ use Rattle.kb_world.specs.declared.tree.Node.{Node}
 use Rattle.kb_world.proofs.NameLaws.{known}
 use Rattle.kb_world.proofs.PathLaws.{under-append, under-self, elsewhere, comparable, by_test, drop-front}
 use Rattle.kb_world.proofs.PublicLaws.{written_apart, in_dkms, shown, node_at-public_tree}
-use Rattle.kb_world.proofs.StepLaws.{parent-child}
+use Rattle.kb_world.proofs.FormedLaws.{dir_stands, dir_above}
 use Rattle.kb_world.proofs.StorePathLaws.{told_both, place_there, link_no_scratch}
 use Rattle.kb_world.proofs.OrderLaws.{any-found, any-of}
 use Rattle.kb_world.proofs.PatchLaws.{tidied-apart}
@@ -34,18 +34,6 @@ use Rattle.kb_changes.proofs.PatchPlaces.{under-trans, under-both, child-under, 
 
 untrue : false ≡ true → ⊥
 untrue e = cc
-
--- ---- what stands above what stands
-
-dir_some : (at : Option Node) → is_dir at ≡ true → is_some at ≡ true
-dir_some None e = absurd (untrue e)
-dir_some (Some at) e = refl
-
-stands_above : (tree : Tree) → IsFormed tree → (directory : Path) (name : List ℕ) (rest : Path) → is_some (node_at tree (directory ++ name ∷ rest)) ≡ true → is_dir (node_at tree directory) ≡ true
-stands_above tree formed directory name [] h = ap (λ p. is_dir (node_at tree p)) (sym (parent-child directory name)) ∙ formed (directory ++ name ∷ []) h
-stands_above tree formed directory name (next ∷ rest) h =
-    let inner = stands_above tree formed (child directory name) next rest (ap (λ p. is_some (node_at tree p)) (append_assoc directory (name ∷ []) (next ∷ rest)) ∙ h) in
-    ap (λ p. is_dir (node_at tree p)) (sym (parent-child directory name)) ∙ formed (directory ++ name ∷ []) (dir_some (node_at tree (child directory name)) inner)
 
 -- ---- what is private below a directory that may go
 
@@ -181,7 +169,7 @@ module _ (roots : Roots) (apart : AreApart roots) (wipes : List Path) (emptied :
   -- where a private path is left below, so is the public directory of its version
   version_left : (new : Tree) (p q : Path) → is_listed p emptied ≡ true → IsLeft roots all_wipes emptied old new → is_below q p ≡ true → is_some (node_at new q) ≡ true → InScratchOf roots q → is_private roots q ≡ true
       → (v : Path) × (is_below v p ≡ true) × IsAlwaysPublic roots v × (is_dir (node_at new v) ≡ true)
-  version_left new p q listed left below stands s private = (v, below_p, opens, left.dirs v opens (stands_above old formed v (codes "build") s.rest (ap (λ x. is_some (node_at old x)) (sym q_is) ∙ was.0)) away stays)
+  version_left new p q listed left below stands s private = (v, below_p, opens, left.dirs v opens (dir_above old formed v (codes "build") s.rest (ap (λ x. is_some (node_at old x)) (sym q_is) ∙ was.0)) away stays)
     where
       v : Path
       v = roots.dkms ++ s.word ∷ s.version ∷ []
@@ -284,7 +272,7 @@ module _ (roots : Roots) (apart : AreApart roots) (wipes : List Path) (emptied :
           by false e =
               let private = hidden q found.1 (node_at new q) e in
               let v = version_left new p q listed left found.1 stands (private_below roots apart p q (places p listed) found.1 private) private in
-              there v.0 v.1 (ap is_some (shown roots new v.0 v.2) ∙ dir_some (node_at new v.0) v.3)
+              there v.0 v.1 (ap is_some (shown roots new v.0 v.2) ∙ dir_stands (node_at new v.0) v.3)
 
       back : list_any (λ other. is_below other p) (keys (public_tree roots new)) ≡ true → list_any (λ other. is_below other p) (keys new) ≡ true
       back any =

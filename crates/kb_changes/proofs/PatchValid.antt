@@ -34,7 +34,7 @@ use Rattle.kb_changes.specs.declared.change.Change.{Change}
 use Rattle.kb_changes.specs.declared.change.Change.TheVariants.{Dir, Put, Drop, DropDir, Wipe, Run}
 use Rattle.kb_changes.specs.declared.change.RootName.{RootName}
 use Rattle.kb_changes.proofs.PatchGroups.{grouped, groups_in_order, drops_are, wipes_are, dirs_are, targets_are, staged_are, drop_dirs_are, runs_are, one_group}
-use Rattle.kb_changes.proofs.PatchParents.{or_right, either, not_true, found-flat_map, nth_listed, rooted_at, directories-over, below-append, below-trans}
+use Rattle.kb_changes.proofs.PatchParents.{or_right, either, not_true, found-flat_map, dir_from, nth_listed, rooted_at, directories-over, below-append, below-trans}
 use Rattle.kb_changes.proofs.PatchPuts.{root-under, staged_apart, open_no_private, count-most, count-grows, own_node, below-append-nodes}
 use Rattle.kb_changes.proofs.PatchDone.{self_listed, drops_listed}
 use Rattle.kb_changes.proofs.PatchPlaces.{any_scratch, scratch_from, under-trans, child-under, scratch_private, listed_root, found-filter}
@@ -44,7 +44,7 @@ untrue e = cc
 
 -- ---- tests of lists
 
-all_of : (test : Path → Bool) (paths : List Path) → ((q : Path) → is_listed q paths ≡ true → test q ≡ true) → list_all test paths ≡ true
+pub all_of : (test : Path → Bool) (paths : List Path) → ((q : Path) → is_listed q paths ≡ true → test q ≡ true) → list_all test paths ≡ true
 all_of test [] each = refl
 all_of test (path ∷ paths) each =
     both_true (each path (ap (λ b. b || is_listed path paths) (same_path-refl path))) (all_of test paths (λ q listed. each q (or_right (same_path q path) (is_listed q paths) listed)))
@@ -233,7 +233,7 @@ module _ (roots : Roots) (apart : AreApart roots) (patch : Patch) (may : MayStan
   below_any q root listed below = any-of (is_below q) (written_roots roots) root below listed
 
   made_from : (q : Path) → is_listed q dirs ≡ true → MadeFrom q
-  made_from q listed = by (either (is_listed q (flat_map (above roots) sources)) (is_listed q patch.dirs) (sym (listed-append q (flat_map (above roots) sources) patch.dirs) ∙ sym (listed-in_order q (flat_map (above roots) sources ++ patch.dirs)) ∙ listed))
+  made_from q listed = by (dir_from roots patch q listed)
     where
       with_true : (path : Path) → list_any (is_below path) (written_roots roots) ≡ true → list_any (λ root. is_below path root && true) (written_roots roots) ≡ true
       with_true path h = let found = any-found (is_below path) (written_roots roots) h in any-of (λ root. is_below path root && true) (written_roots roots) found.0 (both_true found.1 refl) found.2

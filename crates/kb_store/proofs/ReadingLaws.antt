@@ -17,13 +17,13 @@ use Rattle.kb_world.specs.declared.world.WorldError.{WorldError}
 use Rattle.kb_world.specs.declared.world.WorldError.TheVariants.{Failed}
 use Rattle.kb_world.proofs.DamageLaws.{under-split}
 use Rattle.kb_world.proofs.DoesLaws.{cause_then, unchanged_then}
+use Rattle.kb_world.proofs.FormedLaws.{dir_above}
 use Rattle.kb_world.specs.Public.{is_private}
 use Rattle.kb_world.specs.Roots.{AreApart, is_below}
 use Rattle.kb_world.specs.Store.{added_at, added_by}
 use Rattle.kb_world.specs.Boxes.{places_at}
 use Rattle.kb_world.specs.Damage.{hurt, least, harm_at}
 use Rattle.kb_world.specs.declared.roots.Roots.{Roots}
-use Rattle.kb_world.specs.declared.job.Key.{Key}
 use Rattle.kb_world.specs.declared.refusal.Refusal.{Refusal}
 use Rattle.kb_store.specs.Contents.{at_place, build_by, installation_by, chest_by, chest_files, store_of}
 use Rattle.kb_store.specs.Notes.{linked, told_build, told_installation, noted, noted_all, no_notes, notes_of, version_above, version_within, version_entries}
@@ -31,8 +31,6 @@ use Rattle.kb_store.specs.Read.{store_entries, first_refusal, over, store_refusa
 use Rattle.kb_walk.specs.Walking.{walked, LIMITS, met_at}
 use Rattle.kb_store.specs.declared.notes.Notes.{Notes}
 use Rattle.kb_store.specs.declared.read.Reading.{Reading}
-use Rattle.kb_store.specs.declared.store.Build.{Build}
-use Rattle.kb_store.specs.declared.store.Installation.{Installation}
 use Rattle.kb_store.specs.declared.store.Chest.{Chest}
 use Rattle.kb_store.specs.declared.store.Store.{Store}
 use Rattle.kb_walk.specs.declared.walking.Met.{Met}
@@ -43,7 +41,7 @@ use Rattle.kb_store.proofs.StoreLimitLaws.{over_is}
 use Rattle.kb_walk.proofs.MemberLaws.{in_entries}
 use Rattle.kb_walk.proofs.OrderLaws.{is_in, in_front, in_more}
 use Rattle.kb_store.proofs.NotesOfLists.{noted_all_is}
-use Rattle.kb_walk.proofs.WalkLaws.{dir_above, standing}
+use Rattle.kb_walk.proofs.WalkLaws.{standing}
 use Rattle.kb_store.proofs.ToldByEntries.{told_by_entries, harms_told}
 use Rattle.kb_store.proofs.ToldIsThere.{told_builds_held, told_installations_held}
 use Rattle.kb_store.proofs.ReadLaws.{unhurt}

@@ -15,8 +15,8 @@ use Rattle.kb_world.specs.Tree.{Tree, node_at, is_dir, name_in, children, IsForm
 use Rattle.kb_world.specs.TreeLaws.{same_path, same_path-true, same_path-refl}
 use Rattle.kb_world.specs.declared.tree.Node.{Node}
 use Rattle.kb_world.proofs.PathLaws.{under-append, under-beside, drop-front}
-use Rattle.kb_world.proofs.StepLaws.{parent-child}
 use Rattle.kb_world.proofs.DamageLaws.{under-split}
+use Rattle.kb_world.proofs.FormedLaws.{dir_stands, dir_above}
 use Rattle.kb_walk.specs.Walking.{paths_below}
 use Rattle.kb_walk.proofs.OrderLaws.{untrue, rises, is_in, in_more, sole, is_beyond, beyond, heads, grouped, IsClosed, in_groups}
 use Rattle.kb_world.proofs.PathLaws.{by_test}
@@ -126,31 +126,16 @@ no_empty d (path ∷ paths) h =
 
 -- ---- what stands, stands in directories
 
-dir_stands : (at : Option Node) → is_dir at ≡ true → is_some at ≡ true
-dir_stands None h = h
-dir_stands (Some at) h = refl
-
 pub standing : (tree : Tree) (q : Path) → is_some (node_at tree q) ≡ list_any (same_path q) (keys tree)
 standing tree q = contains_key-keys tree q
 
 module _ (tree : Tree) (formed : IsFormed tree) where
-  prefix : (p rest : Path) → is_some (node_at tree (p ++ rest)) ≡ true → is_some (node_at tree p) ≡ true
-  prefix p [] h = ap (λ q. is_some (node_at tree q)) (sym (append-nil p)) ∙ h
-  prefix p (name ∷ rest) h =
-      let up = prefix (child p name) rest (ap (λ q. is_some (node_at tree q)) (append_assoc p (name ∷ []) rest) ∙ h) in
-      dir_stands (node_at tree p) (ap (λ q. is_dir (node_at tree q)) (sym (parent-child p name)) ∙ formed (child p name) up)
-
-  pub dir_above : (p : Path) (name : List ℕ) (rest : Path) → is_some (node_at tree (p ++ name ∷ rest)) ≡ true → is_dir (node_at tree p) ≡ true
-  dir_above p name rest h =
-      let up = prefix (child p name) rest (ap (λ q. is_some (node_at tree q)) (append_assoc p (name ∷ []) rest) ∙ h) in
-      ap (λ q. is_dir (node_at tree q)) (sym (parent-child p name)) ∙ formed (child p name) up
-
   closed : (d : Path) → IsClosed None (stripped d (keys tree))
   closed d = record {
     some = no_empty d (keys tree);
     heads_in = λ name next rest h.
         let stands = standing tree (d ++ name ∷ next ∷ rest) ∙ in_unstrip d (name ∷ next ∷ rest) (keys tree) h in
-        let head = prefix (d ++ name ∷ []) (next ∷ rest) (ap (λ q. is_some (node_at tree q)) (append_assoc d (name ∷ []) (next ∷ rest)) ∙ stands) in
+        let head = dir_stands (node_at tree (d ++ name ∷ [])) (dir_above tree formed (d ++ name ∷ []) next rest (ap (λ q. is_some (node_at tree q)) (append_assoc d (name ∷ []) (next ∷ rest)) ∙ stands)) in
         inr (in_strip d name [] (keys tree) (sym (standing tree (d ++ name ∷ [])) ∙ head));
   }
 

@@ -5,12 +5,12 @@ use Rattle.std.specs.List.{list_any, AllByRecursion}
 use Rattle.std.specs.Cmp.{first_so, second_so}
 use Rattle.std.specs.Cmp.Derive.{both_true}
 use Rattle.std.specs.Cmp.Lexicographic.{bytes_decides}
-use Rattle.kb_world.specs.Path.{Path, child, is_under}
+use Rattle.kb_world.specs.Path.{Path, child, is_under, are_apart}
 use Rattle.kb_world.specs.TreeLaws.{same_path, same_path-true}
 use Rattle.kb_world.specs.Roots.{is_below}
 use Rattle.kb_world.specs.Patch.{directories_to, above_in, above, is_listed}
 use Rattle.kb_world.specs.declared.roots.Roots.{Roots}
-use Rattle.kb_world.proofs.PathLaws.{under-append, under-beside, under-split, drop-front}
+use Rattle.kb_world.proofs.PathLaws.{under-append, under-beside, under-split, elsewhere, apart-back, drop-front}
 
 -- ---- what holds of each of a list
 
@@ -128,3 +128,11 @@ pub above-dkms : (roots : Roots) (names : Path) → above roots (roots.dkms ++ n
 above-dkms roots names =
     ap (λ b. cond b (directories_to roots.dkms (drop (length roots.dkms) (roots.dkms ++ names))) (above_in (roots.src ∷ roots.modules ∷ roots.boot ∷ []) (roots.dkms ++ names))) (under-append roots.dkms names)
     ∙ ap (directories_to roots.dkms) (drop-front roots.dkms names)
+
+-- and so they are below the root of sources
+pub above-src : (roots : Roots) → are_apart roots.dkms roots.src ≡ true → (names : Path) → above roots (roots.src ++ names) ≡ directories_to roots.src names
+above-src roots apart names =
+    ap (λ b. cond b (directories_to roots.dkms (drop (length roots.dkms) (roots.src ++ names))) (above_in (roots.src ∷ roots.modules ∷ roots.boot ∷ []) (roots.src ++ names)))
+    (elsewhere (roots.src ++ names) roots.src roots.dkms (apart-back roots.dkms roots.src apart) (under-append roots.src names))
+    ∙ ap (λ b. cond b (directories_to roots.src (drop (length roots.src) (roots.src ++ names))) (above_in (roots.modules ∷ roots.boot ∷ []) (roots.src ++ names))) (under-append roots.src names)
+    ∙ ap (directories_to roots.src) (drop-front roots.src names)

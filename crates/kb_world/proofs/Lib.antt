@@ -3,6 +3,7 @@ pub mod AddLaws
 pub mod CrashLaws
 pub mod DamageLaws
 pub mod DoesLaws
+pub mod FormedLaws
 pub mod LayoutLaws
 pub mod LeftLaws
 pub mod LinkLaws

@@ -50,8 +50,12 @@ keys_rise (e ∷ es) h = (all_above e.0 es (both_true_so (below_all path_cmp e.0
     both_true_so true b h = tt
     both_true_so false b h = h
 
+-- the paths of a tree rise
+pub tree_rises : (tree : Tree) → IsRising (keys tree)
+tree_rises tree = keys_rise (entries tree) (entries_sorted tree)
+
 pub in_order_rises : (paths : List Path) → IsRising (in_order paths)
-in_order_rises paths = let made : Tree = from_entries (map (λ path. (path, node.Dir)) paths) in keys_rise (entries made) (entries_sorted made)
+in_order_rises paths = let made : Tree = from_entries (map (λ path. (path, node.Dir)) paths) in tree_rises made
 
 -- a path stands before those below it
 pub below-rises : (path directory : Path) → is_below path directory ≡ true → path_cmp directory path ≡ Less
