@@ -1,6 +1,7 @@
 pub mod GroupLaws
 pub mod NumberLaws
 pub mod PatchDone
+pub mod PathsLaws
 mod PatchForeign
 mod PatchGroups
 pub mod PatchMet
@@ -11,6 +12,7 @@ mod PatchPlain
 pub mod PatchPublic
 mod PatchPuts
 pub mod PatchValid
+pub mod RisingLaws
 pub mod RunLaws
 pub mod SetLaws
 pub mod StepLaws

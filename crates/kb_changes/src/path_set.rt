@@ -1,6 +1,7 @@
 // Sets of paths.
-ghost use Rattle.std.specs.Prelude.{◌≡◌, not, IfOk, OnOk, [], ◌∷◌};
+ghost use Rattle.std.specs.Prelude.{◌≡◌, ◌++◌, not, IfOk, OnOk, [], ◌∷◌};
 ghost use Rattle.std.specs.List.{list_any};
+ghost use Rattle.kb_world.specs.Patch.{in_order};
 ghost use Rattle.kb_world.specs.Path.{is_under};
 ghost use Rattle.kb_world.specs.Roots.{is_below};
 ghost use Rattle.kb_changes.specs.Valid.{is_among_paths, HoldSame};
@@ -50,15 +51,30 @@ impl PathSet {
         Ok(self.set.insert(key)?)
     }
 
+    /// Adds each of these paths.
+    pub fn add_all(&mut self, paths: &[Path]) -> Result<(), AllocError>
+        ensures { OnOk result (HoldSame self.new (paths.now ++ self.old)) }
+    {
+        for path in paths {
+            self.add(path)?;
+        }
+        Ok(())
+    }
+
     /// The set of these paths.
     pub fn of(alloc: Global, paths: &[Path]) -> Result<PathSet, AllocError>
         ensures { IfOk result (λ set. HoldSame set paths.now) }
     {
         let mut set = PathSet::new(alloc);
-        for path in paths {
-            set.add(path)?;
-        }
+        set.add_all(paths)?;
         Ok(set)
+    }
+
+    /// The paths, each before those below it.
+    pub fn in_order(self, alloc: Global) -> Result<Vec<Path>, AllocError>
+        ensures { IfOk result (λ paths. paths.items ≡ in_order self) }
+    {
+        self.set.into_iter().collect(alloc)
     }
 
     /// Whether a path of the set is above this one.

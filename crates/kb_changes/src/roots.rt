@@ -4,6 +4,7 @@ ghost use Rattle.std.specs.Fmt.{decimal};
 ghost use Rattle.kb_world.specs.Path.{child};
 ghost use Rattle.kb_world.specs.Public.{staging_path};
 ghost use Rattle.kb_changes.specs.Change as rule;
+ghost use Rattle.kb_changes.specs.Changes as changes_rule;
 
 use crate::change::RootName;
 use kb_world::{Path, Roots, Text};
@@ -18,6 +19,21 @@ pub(crate) fn root_path<'a>(roots: &'a Roots, root: RootName) -> &'a Path
         RootName::Src => &roots.src,
         RootName::Modules => &roots.modules,
         RootName::Boot => &roots.boot,
+    }
+}
+
+/// The root that a path is put below: the first of the written roots that it is in, else boot.
+pub(crate) fn root_of(roots: &Roots, path: &Path) -> RootName
+    ensures { result ≡ changes_rule.root_of roots.now path.now }
+{
+    if path.is_under(&roots.dkms) {
+        RootName::Dkms
+    } else if path.is_under(&roots.src) {
+        RootName::Src
+    } else if path.is_under(&roots.modules) {
+        RootName::Modules
+    } else {
+        RootName::Boot
     }
 }
 

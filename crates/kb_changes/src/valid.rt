@@ -53,7 +53,8 @@ fn are_version_names(names: &[Text]) -> bool
     }
 }
 
-fn is_version_dir(roots: &Roots, path: &Path) -> bool
+/// Whether the path is the directory of a package's version.
+pub(crate) fn is_version_dir(roots: &Roots, path: &Path) -> bool
     ensures { result ≡ rule.is_version_dir roots.now path.now }
 {
     match path.below(&roots.dkms) {

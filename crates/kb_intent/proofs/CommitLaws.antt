@@ -18,7 +18,7 @@ use Rattle.kb_world.proofs.CrashLaws.{turns_wider, turns_none, turns_adds_more}
 use Rattle.kb_world.proofs.DoesLaws.{cause_then, lasts_then, unchanged_none}
 use Rattle.kb_world.proofs.Told.{told_before}
 use Rattle.kb_changes.specs.Change.{requests_of}
-use Rattle.kb_changes.specs.Text.{IsJournal}
+use Rattle.kb_changes.specs.Text.{AreTexts, IsJournal, intent_text}
 use Rattle.kb_changes.specs.Valid.{new_intent_path, is_valid}
 use Rattle.kb_changes.specs.declared.change.Intent.{Intent}
 use Rattle.kb_again.specs.Sparing.{AreSparing, areas_of}
@@ -48,11 +48,14 @@ commits_wanting roots made state = record {
   survives = λ tree told rests. record { turns = turns_none _ _ state.history state.history refl; leaves = inl rests.stands };
 }
 
-module _ (roots : Roots) (intent : Intent) (text : List ℕ) (apart : AreApart roots) (valid : is_valid roots intent.changes ≡ true) (journal : IsJournal roots text intent) (old mid : State)
-    (formed : HasFormedTree old) (home : ForSome old.tree (λ tree. is_dir (node_at tree roots.dkms) ≡ true))
+module _ (roots : Roots) (intent : Intent) (text : List ℕ) (apart : AreApart roots) (texts : AreTexts intent) (spelled : intent_text intent ≡ text) (old mid : State)
+    (valid : ForSome old.tree (λ tree. is_valid roots intent.changes ≡ true)) (formed : HasFormedTree old) (home : ForSome old.tree (λ tree. is_dir (node_at tree roots.dkms) ≡ true))
     (bare : ForSome old.tree (λ tree. (node_at tree (intent_path roots) ≡ None) × (node_at tree (new_intent_path roots) ≡ None))) where
   abbrev made : Tree → Transacted
   made = transacted roots old.script intent.changes
+
+  journal : (tree : Tree) → old.tree ≡ Some tree → IsJournal roots text intent
+  journal tree told = record { texts = texts; valid = valid tree told; spelled = spelled }
 
   abbrev first_of : Tree → Tree
   first_of tree = public_tree roots tree
@@ -66,15 +69,15 @@ module _ (roots : Roots) (intent : Intent) (text : List ℕ) (apart : AreApart r
 
     turned : {T : Type 0} (result : Result T WorldError) → PutsJournal roots text old mid result → TurnsOver roots old.script (first_of tree) (second_of tree) old.history mid.history
     turned result p = turns_wider _ _ (IsBareOf roots (first_of tree)) (λ image. Opens roots old.script image (second_of tree)) old.history mid.history
-        (early_bare roots old.script intent text apart valid journal tree (formed tree told) (home tree told) (bare tree told).0 (bare tree told).1 old.history.soft spares)
-        (late_opens roots old.script intent text apart valid journal tree (formed tree told) (home tree told) (bare tree told).0 (bare tree told).1 old.history.soft spares) (p.moments tree told)
+        (early_bare roots old.script intent text apart (valid tree told) (journal tree told) tree (formed tree told) (home tree told) (bare tree told).0 (bare tree told).1 old.history.soft spares)
+        (late_opens roots old.script intent text apart (valid tree told) (journal tree told) tree (formed tree told) (home tree told) (bare tree told).0 (bare tree told).1 old.history.soft spares) (p.moments tree told)
 
     stands_stopped : {T : Type 0} (result : Result T WorldError) → PutsJournal roots text old mid result → Stands roots (first_of tree) mid ⊎ Stands roots (second_of tree) mid
     stands_stopped result p =
         let n = p.now tree told in
         elim n.2 [
-          | inl begun ↦ inl (early_stands roots old.script intent text apart valid journal tree (formed tree told) (home tree told) (bare tree told).0 (bare tree told).1 old.history.soft spares mid n.0 n.1 p.soft begun)
-          | inr stands ↦ inr (late_stands roots old.script intent text apart valid journal tree (formed tree told) (home tree told) (bare tree told).0 (bare tree told).1 mid (n.1 ∙ ap Some stands) p.ran_none.lasts.script
+          | inl begun ↦ inl (early_stands roots old.script intent text apart (valid tree told) (journal tree told) tree (formed tree told) (home tree told) (bare tree told).0 (bare tree told).1 old.history.soft spares mid n.0 n.1 p.soft begun)
+          | inr stands ↦ inr (late_stands roots old.script intent text apart (valid tree told) (journal tree told) tree (formed tree told) (home tree told) (bare tree told).0 (bare tree told).1 mid (n.1 ∙ ap Some stands) p.ran_none.lasts.script
               (subst (AreSparing roots []) (sym p.soft) spares))
         ]
 
@@ -96,7 +99,7 @@ module _ (roots : Roots) (intent : Intent) (text : List ℕ) (apart : AreApart r
     mid_told tree told = p.done ∙ ap (option_map (with_journal roots text)) told
 
     journal_of : (tree : Tree) → old.tree ≡ Some tree → HasJournal roots intent (with_journal roots text tree)
-    journal_of tree told = has_journal roots old.script intent text apart valid journal tree (formed tree told) (home tree told) (bare tree told).0 (bare tree told).1
+    journal_of tree told = has_journal roots old.script intent text apart (valid tree told) (journal tree told) tree (formed tree told) (home tree told) (bare tree told).0 (bare tree told).1
 
     -- its journal stands
     pub journal_there : ForSome mid.tree (λ tree. (other : Intent) × HasJournal roots other tree × (other.changes ≡ intent.changes))
@@ -112,7 +115,7 @@ module _ (roots : Roots) (intent : Intent) (text : List ℕ) (apart : AreApart r
         store_is : store_after roots mid.script intent.changes (with_journal roots text tree) ≡ second_of tree
         store_is =
             ap (λ script. store_after roots script intent.changes (with_journal roots text tree)) p.ran_none.lasts.script
-            ∙ second_is roots old.script intent text apart valid journal tree (formed tree told) (home tree told) (bare tree told).0 (bare tree told).1
+            ∙ second_is roots old.script intent text apart (valid tree told) (journal tree told) tree (formed tree told) (home tree told) (bare tree told).0 (bare tree told).1
 
         kept : KeepsOpening roots (second_of tree) mid new result
         kept = subst (λ s. KeepsOpening roots s mid new result) store_is
@@ -129,9 +132,9 @@ module _ (roots : Roots) (intent : Intent) (text : List ℕ) (apart : AreApart r
         done = λ tree told.
             let finished : IsFinished roots intent.changes mid new (with_journal roots text tree) ran = f.done (with_journal roots text tree) (mid_told tree told) in
             let is = subst (λ script. IsCommitted (transacted roots script intent.changes (with_journal roots text tree)) mid new ran.replies) p.ran_none.lasts.script finished.committed in
-            let alike = same_done roots old.script intent text apart valid journal tree (formed tree told) (home tree told) (bare tree told).0 (bare tree told).1 in
+            let alike = same_done roots old.script intent text apart (valid tree told) (journal tree told) tree (formed tree told) (home tree told) (bare tree told).0 (bare tree told).1 in
             record {
-              tree = is.tree ∙ ap Some (same_cleaned roots old.script intent text apart valid journal tree (formed tree told) (home tree told) (bare tree told).0 (bare tree told).1);
+              tree = is.tree ∙ ap Some (same_cleaned roots old.script intent text apart (valid tree told) (journal tree told) tree (formed tree told) (home tree told) (bare tree told).0 (bare tree told).1);
               ran = is.ran ∙ ap (λ r. r ++ requests_of roots old.script intent.changes (with_journal roots text tree)) p.ran_none.ran ∙ ap (λ r. old.ran ++ r) alike.requests;
               said = is.said ∙ alike.replies;
             };

@@ -30,7 +30,7 @@ use Rattle.kb_intent.specs.Doing.{DoesChanges}
 use Rattle.kb_intent.specs.Finish.{HasJournal, store_after, EndsTransaction}
 use Rattle.kb_intent.specs.declared.changing.Ran.{Ran}
 use Rattle.kb_intent.proofs.ChangeLaws.{cause_of_ok}
-use Rattle.kb_intent.proofs.FinishLaws.{IsOnTheWay, way_begins, way_settles, way_takes, way_opens, way_stands}
+use Rattle.kb_intent.proofs.FinishLaws.{journal_valid, IsOnTheWay, way_begins, way_settles, way_takes, way_opens, way_stands}
 use Rattle.kb_intent.proofs.StandingLaws.{sparing_now, unstaged_journal, done_journal, cleaned_is, unstaged_public, bare_public, bare_journal}
 
 -- nothing was begun, for want of memory
@@ -67,20 +67,20 @@ stands_same roots store old new same soft scripted s = record {
 
 -- ---- the states that the call goes through: behind the changes, what is settled, what is unstaged, and the journal's end
 
-module _ (roots : Roots) (changes : List Change) (old ran settling bare : State) (apart : AreApart roots) (valid : is_valid roots changes ≡ true) (formed : HasFormedTree old) (made : Ran)
+module _ (roots : Roots) (changes : List Change) (old ran settling bare : State) (apart : AreApart roots) (formed : HasFormedTree old) (made : Ran)
     (d : DoesChanges roots changes old ran (Ok made)) (s : SettlesAll (areas_of changes) {T = Unit {0}} ran settling (Ok tt)) (t : TakesAllAway (staging_paths roots) {T = Unit {0}} settling bare (Ok tt)) where
   way_there : IsOnTheWay roots changes {T = Unit {0}} old bare (Ok tt)
   way_there = way_takes roots changes old settling bare tt (Ok tt) (way_settles roots changes old ran settling made (Ok tt) (way_begins roots changes old ran made d) s) t
 
   -- no soft area does harm then
-  spares_there : AreSparing roots (areas_of changes) old.history.soft → AreSparing roots [] bare.history.soft
-  spares_there spares = subst (AreSparing roots []) (sym (t.soft ∙ s.done))
+  spares_there : is_valid roots changes ≡ true → AreSparing roots (areas_of changes) old.history.soft → AreSparing roots [] bare.history.soft
+  spares_there valid spares = subst (AreSparing roots []) (sym (t.soft ∙ s.done))
       (settled_sparing roots changes ran.history.soft apart valid (sparing_now roots changes old.history.soft ran.history.soft apart valid spares d.soft))
 
   -- the tree that the transaction makes
-  tree_made : HasFormedTree ran → (new : State) → new.tree ≡ option_map (without (intent_path roots)) bare.tree → (tree : Tree) → old.tree ≡ Some tree
+  tree_made : is_valid roots changes ≡ true → HasFormedTree ran → (new : State) → new.tree ≡ option_map (without (intent_path roots)) bare.tree → (tree : Tree) → old.tree ≡ Some tree
       → is_dir (node_at tree (intent_path roots)) ≡ false → new.tree ≡ Some (cleaned roots (done roots old.script changes tree))
-  tree_made formed_ran new gone tree told file =
+  tree_made valid formed_ran new gone tree told file =
       let ended : Tree = done roots old.script changes tree in
       gone ∙ ap (option_map (without (intent_path roots))) (t.done ∙ ap (option_map (without_trees (staging_paths roots))) (s.tree ∙ (d.done tree told).tree))
       ∙ ap Some (cleaned_is roots ended (formed_ran ended (d.done tree told).tree) (ap is_dir (done_journal roots old.script changes tree apart valid (formed tree told)) ∙ file))
@@ -90,7 +90,9 @@ module _ (roots : Roots) (changes : List Change) (old ran settling bare : State)
   leaf_there formed_bare has now told =
       let before = told_before old.tree bare.tree now way_there.lasts.told told in
       let there = way_there.tree before.0 before.1 in
-      let journal = (has before.0 before.1).1 in
+      let has_one = has before.0 before.1 in
+      let journal = has_one.1 in
+      let valid = journal_valid roots changes before.0 has_one.0 has_one.1 has_one.2 in
       let same : there.0 ≡ now = some_same there.0 now (sym there.1 ∙ told) in
       subst (λ x. is_leaf (node_at x (intent_path roots)) ≡ true) same
       (ap is_leaf (unstaged_journal roots old.script changes before.0 apart valid (formed before.0 before.1) there.0 (formed_bare there.0 there.1) there.2 ∙ journal.stands))
@@ -104,6 +106,9 @@ module _ (roots : Roots) (changes : List Change) (old ran settling bare : State)
       abbrev store : Tree
       store = store_after roots old.script changes tree
 
+      valid : is_valid roots changes ≡ true
+      valid = journal_valid roots changes tree intent journal same
+
       abbrev before : Tree
       before = (way_there.tree tree told).0
 
@@ -114,22 +119,22 @@ module _ (roots : Roots) (changes : List Change) (old ran settling bare : State)
       public_ended = bare_public roots before ∙ unstaged_public roots (done roots old.script changes tree) before (way_there.tree tree told).2
 
       stands_before : Stands roots store bare
-      stands_before = way_stands roots changes old apart valid formed tree told intent journal same spares bare (Ok tt) formed_bare way_there
+      stands_before = way_stands roots changes old apart formed tree told intent journal same spares bare (Ok tt) formed_bare way_there
 
       ended_opens : (image : Tree) → IsLeft bare.history.soft ended image → Opens roots old.script image store
       ended_opens image left =
-          opens-none roots old.script image store (spared_journal roots [] bare.history.soft ended image (spares_there spares) left ∙ bare_journal roots before)
-          (spared_public roots bare.history.soft ended image (spares_there spares) left ∙ public_ended)
+          opens-none roots old.script image store (spared_journal roots [] bare.history.soft ended image (spares_there valid spares) left ∙ bare_journal roots before)
+          (spared_public roots bare.history.soft ended image (spares_there valid spares) left ∙ public_ended)
 
       ended_told : new.tree ≡ option_map (without (intent_path roots)) bare.tree → new.tree ≡ Some ended
       ended_told gone = gone ∙ ap (option_map (without (intent_path roots))) (way_there.tree tree told).1
 
       end_rests : new.history.soft ≡ bare.history.soft → new.tree ≡ option_map (without (intent_path roots)) bare.tree → Rests roots store new
-      end_rests soft gone = subst (λ public. Rests roots public new) public_ended (rests_from roots new ended (ended_told gone) (bare_journal roots before) (subst (AreSparing roots []) (sym soft) (spares_there spares)))
+      end_rests soft gone = subst (λ public. Rests roots public new) public_ended (rests_from roots new ended (ended_told gone) (bare_journal roots before) (subst (AreSparing roots []) (sym soft) (spares_there valid spares)))
 
       end_opens : {T : Type 0} (result : Result T WorldError) → Changes (without (intent_path roots)) bare new result → Adds (λ image. Opens roots old.script image store) old.history new.history
       end_opens result c =
-          adds_then _ old.history bare.history new.history (way_opens roots changes old apart valid formed tree told intent journal same spares bare (Ok tt) way_there)
+          adds_then _ old.history bare.history new.history (way_opens roots changes old apart formed tree told intent journal same spares bare (Ok tt) way_there)
           (adds_wider _ (λ image. Opens roots old.script image store) bare.history new.history (λ image left. elim left [
             | inl early ↦ subst (λ f. Opens roots f image store) way_there.lasts.script (stands_before.opens image early)
             | inr late ↦ ended_opens image (subst (λ o. LeftOf bare.history.soft (option_map (without (intent_path roots)) o) image) (way_there.tree tree told).1 late)
@@ -159,14 +164,17 @@ module _ (roots : Roots) (changes : List Change) (old ran settling bare : State)
     pub end_done : HasFormedTree ran → ForSome old.tree (λ tree. (intent : Intent) × HasJournal roots intent tree × (intent.changes ≡ changes)) → Changes (without (intent_path roots)) {T = Unit {0}} bare new (Ok tt)
         → EndsTransaction roots changes old new (Ok made)
     end_done formed_ran has c = record {
-      done = λ tree told. record {
-        committed = record {
-          tree = tree_made formed_ran new c.done tree told (ap is_dir (has tree told).1.stands);
-          ran = c.ran_none.ran ∙ way_there.ran tree told;
-          said = (d.done tree told).said;
-        };
-        requests = (d.done tree told).requests;
-      };
+      done = λ tree told.
+          let has_one = has tree told in
+          let valid = journal_valid roots changes tree has_one.0 has_one.1 has_one.2 in
+          record {
+            committed = record {
+              tree = tree_made valid formed_ran new c.done tree told (ap is_dir has_one.1.stands);
+              ran = c.ran_none.ran ∙ way_there.ran tree told;
+              said = (d.done tree told).said;
+            };
+            requests = (d.done tree told).requests;
+          };
       survives = λ tree told intent journal same spares.
           let rests = end_rests tree told intent journal same spares c.soft c.done in
           record { each_moment = end_opens tree told intent journal same spares (Ok tt) c; stands = rests.stands; rests = rests };

@@ -1,5 +1,5 @@
 -- The parts of what ends a transaction, one after another.
-use Rattle.std.proofs.Common.{◌≡◌, ◌⊎◌, true, List, ◌++◌, Option, Some, Result, Ok, Err, sym, ◌∙◌, subst, inl, inr}
+use Rattle.std.proofs.Common.{◌≡◌, ◌⊎◌, true, List, ◌++◌, Option, Some, Result, Ok, Err, sym, ap, ◌∙◌, subst, inl, inr}
 use Rattle.std.specs.List.{AllByRecursion}
 use Rattle.std.specs.Option.{ForSome}
 use Rattle.kb_world.specs.Crash.{LeftOf, Adds}
@@ -100,7 +100,11 @@ way_takes roots changes old mid new value result w t = record {
 
 -- ---- what survives
 
-module _ (roots : Roots) (changes : List Change) (old : State) (apart : AreApart roots) (valid : is_valid roots changes ≡ true) (formed : HasFormedTree old) where
+-- what a journal has is valid
+pub journal_valid : (roots : Roots) (changes : List Change) (tree : Tree) (intent : Intent) → HasJournal roots intent tree → intent.changes ≡ changes → is_valid roots changes ≡ true
+journal_valid roots changes tree intent journal same = ap (is_valid roots) (sym same) ∙ journal.journal.valid
+
+module _ (roots : Roots) (changes : List Change) (old : State) (apart : AreApart roots) (formed : HasFormedTree old) where
   abbrev Survives : {T : Type 0} → State → Result T WorldError → Type 0
   Survives new result = ForSome old.tree (λ tree. (intent : Intent) → HasJournal roots intent tree → intent.changes ≡ changes → AreSparing roots (areas_of changes) old.history.soft
       → KeepsOpening roots (store_after roots old.script changes tree) old new result)
@@ -110,6 +114,7 @@ module _ (roots : Roots) (changes : List Change) (old : State) (apart : AreApart
   changes_stopped new error formed_new d = record {
     done = λ tree told. tt;
     survives = λ tree told intent journal same spares.
+        let valid = journal_valid roots changes tree intent journal same in
         let cut = d.cut_off tree told in
         record {
           each_moment = adds_wider _ (λ image. Opens roots old.script image (store_after roots old.script changes tree)) old.history new.history
@@ -128,6 +133,9 @@ module _ (roots : Roots) (changes : List Change) (old : State) (apart : AreApart
   module _ (tree : Tree) (told : old.tree ≡ Some tree) (intent : Intent) (journal : HasJournal roots intent tree) (same : intent.changes ≡ changes) (spares : AreSparing roots (areas_of changes) old.history.soft) where
     abbrev store : Tree
     store = store_after roots old.script changes tree
+
+    valid : is_valid roots changes ≡ true
+    valid = journal_valid roots changes tree intent journal same
 
     left_opens : (image : Tree) → LeftOnTheWay roots old.script changes old.history.soft tree image → Opens roots old.script image store
     left_opens image left = opens_alike roots old.script changes tree apart valid (formed tree told) intent journal same image (elim left [

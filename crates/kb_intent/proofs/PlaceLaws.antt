@@ -22,8 +22,9 @@ use Rattle.kb_again.specs.Within.{staging_paths}
 use Rattle.kb_again.proofs.PathLaws.{is_listed, listed_cons, listed_more}
 use Rattle.kb_again.proofs.RootLaws.{inside, inside_some, is_staging, untouched_private}
 use Rattle.kb_machine.specs.Aside.{is_aside}
-use Rattle.kb_intent.specs.Txn.{with_staged, count_below, one_more, left_places}
-use Rattle.kb_intent.specs.declared.txn.Counts.{Counts}
+use Rattle.kb_changes.specs.Counts.{count_below, one_more}
+use Rattle.kb_changes.specs.declared.counts.Counts.{Counts}
+use Rattle.kb_intent.specs.Txn.{with_staged, left_places}
 
 -- ---- two entries
 

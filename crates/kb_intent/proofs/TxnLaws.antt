@@ -24,6 +24,7 @@ use Rattle.kb_world.proofs.PathLaws.{elsewhere, under-self}
 use Rattle.kb_world.proofs.StepLaws.{parent-child, child-other}
 use Rattle.kb_changes.specs.Change.{root_path, staged_path}
 use Rattle.kb_changes.specs.Changes.{Staged, staged_below}
+use Rattle.kb_changes.specs.Counts.{count_below, none_counted}
 use Rattle.kb_changes.specs.declared.change.RootName.{RootName}
 use Rattle.kb_changes.specs.declared.change.RootName.TheVariants as root_name
 use Rattle.kb_again.proofs.RootLaws.{same_last}
@@ -31,7 +32,7 @@ use Rattle.std.proofs.lemmas.Bool.{or_left}
 use Rattle.kb_machine.specs.Aside.{WorksAside}
 use Rattle.kb_intent.specs.Doing.{made_dir_at}
 use Rattle.kb_intent.specs.Staging.{ChangesBut, put_inside}
-use Rattle.kb_intent.specs.Txn.{HoldsBelow, AreStagedFor, IsNewTransaction, IsCleared, BeginsTransaction, Stages, with_staged, none_staged, none_counted, count_below, with_count, left_places}
+use Rattle.kb_intent.specs.Txn.{HoldsBelow, AreStagedFor, IsNewTransaction, IsCleared, BeginsTransaction, Stages, with_staged, none_staged, with_count, left_places}
 use Rattle.kb_intent.specs.declared.txn.Txn.{Txn}
 use Rattle.kb_intent.proofs.ButLaws.{same_wider, same_with, same_made, under_parent, aside_but, stays_done, stays_stopped, stays_wanting}
 use Rattle.kb_intent.proofs.DecimalLaws.{decimal_alone}

@@ -50,6 +50,10 @@ some_staged roots (DropDir path ∷ changes) q listed = some_staged roots change
 some_staged roots (Wipe path ∷ changes) q listed = some_staged roots changes q listed
 some_staged roots (Run request ∷ changes) q listed = some_staged roots changes q listed
 
+-- the paths of valid changes may be changed
+pub valid_placed : (roots : Roots) (changes : List Change) → is_valid roots changes ≡ true → are_well_placed roots changes ≡ true
+valid_placed roots changes valid = second_so _ (are_well_placed roots changes) (first_so _ (are_fit_runs roots changes) valid)
+
 module _ (roots : Roots) (apart : AreApart roots) where
   w : WrittenApart roots
   w = written_apart roots apart
@@ -169,5 +173,4 @@ module _ (roots : Roots) (apart : AreApart roots) where
   pub unreached : (script : Script) (changes : List Change) (tree : Tree) (q : Path) → is_valid roots changes ≡ true → is_under q (new_intent_path roots) ≡ true → node_at (done roots script changes tree) q ≡ node_at tree q
   unreached script changes tree q valid under =
       let fit = second_so _ (are_fit_runs roots changes) valid in
-      let placed = second_so _ (are_well_placed roots changes) (first_so _ (are_fit_runs roots changes) valid) in
-      all_unreached q under script (drops_in changes) changes placed fit tree
+      all_unreached q under script (drops_in changes) changes (valid_placed roots changes valid) fit tree

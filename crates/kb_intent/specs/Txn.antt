@@ -1,5 +1,5 @@
 -- A transaction that is being put together: its changes, and what is staged for them. This project's own.
-use Rattle.std.specs.Prelude.{◌≡◌, ℕ, ◌+◌, ◌≤◌, true, false, List, [], ◌∷◌, ◌++◌, length, Option, Some, None, Result, IfOk, OnOk, OnErr, IsErrOf}
+use Rattle.std.specs.Prelude.{◌≡◌, ℕ, ◌≤◌, true, false, List, [], ◌∷◌, ◌++◌, length, Option, Some, None, Result, IfOk, OnOk, OnErr, IsErrOf}
 use Rattle.std.specs.List.{list_any, slice_get}
 use Rattle.std.specs.Option.{ForSome}
 use Rattle.kb_world.specs.Path.{Path, is_under}
@@ -14,13 +14,13 @@ use Rattle.kb_world.specs.declared.stop.Stop.TheVariants.{Refused, Fault}
 use Rattle.kb_world.specs.declared.tree.Node.{Node}
 use Rattle.kb_changes.specs.Change.{staged_path, root_path}
 use Rattle.kb_changes.specs.Changes.{Staged, staged_below}
+use Rattle.kb_changes.specs.Counts.{count_below, none_counted, one_more}
 use Rattle.kb_changes.specs.Valid.{new_intent_path}
 use Rattle.kb_changes.specs.declared.change.Change.{Change}
 use Rattle.kb_changes.specs.declared.change.RootName.{RootName}
 use Rattle.kb_changes.specs.declared.change.RootName.TheVariants as root_name
 use Rattle.kb_again.specs.Within.{staging_paths}
 use Rattle.kb_machine.specs.Aside.{IsSameBut, WorksAside}
-use Rattle.kb_intent.specs.declared.txn.Counts.{Counts}
 use Rattle.kb_intent.specs.declared.txn.Txn.{Txn}
 
 -- below the root these nodes are staged under the first numbers, and nothing is under the others
@@ -46,31 +46,17 @@ none_staged = record { dkms = []; src = []; «modules» = []; boot = [] }
 
 -- ---- what a transaction counts, and how it grows
 
--- so many nodes are staged below the root
-abbrev pub count_below : Counts → RootName → ℕ
-count_below counts root_name.Dkms = counts.dkms
-count_below counts root_name.Src = counts.src
-count_below counts root_name.Modules = counts.modules
-count_below counts root_name.Boot = counts.boot
-
--- one more is
-abbrev pub one_more : RootName → Counts → Counts
-one_more root_name.Dkms counts = record counts { dkms = counts.dkms + 1 }
-one_more root_name.Src counts = record counts { src = counts.src + 1 }
-one_more root_name.Modules counts = record counts { «modules» = counts.modules + 1 }
-one_more root_name.Boot counts = record counts { boot = counts.boot + 1 }
-
--- none is
-abbrev pub none_counted : Counts
-none_counted = record { dkms = 0; src = 0; «modules» = 0; boot = 0 }
-
 -- one node more is counted below the root, and nothing else is changed
 abbrev pub with_count : RootName → Txn → Txn
 with_count root txn = record txn { staged = one_more root txn.staged }
 
--- it has one change more, and nothing else is changed
+-- it has these changes more, and nothing else is changed
+abbrev pub with_changes_behind : List Change → Txn → Txn
+with_changes_behind changes txn = record txn { intent = record txn.intent { changes = txn.intent.changes ++ changes } }
+
+-- it has one more
 abbrev pub with_change_behind : Change → Txn → Txn
-with_change_behind change txn = record txn { intent = record txn.intent { changes = txn.intent.changes ++ change ∷ [] } }
+with_change_behind change txn = with_changes_behind (change ∷ []) txn
 
 -- these nodes are staged for the transaction, no others, and it counts them
 pub record AreStagedFor (txn : Txn) (staged : Staged) (tree : Tree) : Type 0 where

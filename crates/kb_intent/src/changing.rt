@@ -1,9 +1,8 @@
 // Any change of a transaction is done.
 ghost use Rattle.std.specs.Prelude.{◌≡◌, ◌++◌, true, OnOk};
-ghost use Rattle.std.specs.List.{list_all};
 ghost use Rattle.std.specs.Option.{ForSome};
 ghost use Rattle.kb_world.specs.Roots.{share_root};
-ghost use Rattle.kb_changes.specs.Valid.{is_well_placed};
+ghost use Rattle.kb_changes.specs.Valid.{are_well_placed, is_well_placed};
 ghost use Rattle.kb_changes.specs.declared.change.Change.TheVariants as changes;
 ghost use Rattle.kb_world.specs.Tree.{node_at, is_dir};
 ghost use Rattle.kb_intent.specs.Doing.{StepsTo, DoesChange, DoesChanges, put_staged_at, said_by, asked_by};
@@ -100,7 +99,8 @@ fn do_put<W: World>(
     target: &Path,
 ) -> Result<Option<Reply>, WorldError>
     requires rooted { ForSome (W.state world.old).tree (λ tree. (W.state world.old).roots ≡ roots.now) }
-    requires placed { is_well_placed roots.now (changes.Put root number target.now) ≡ true }
+    requires placed { ForSome (W.state world.old).tree (λ tree.
+        is_well_placed roots.now (changes.Put root number target.now) ≡ true) }
     ensures { DoesChange roots.now (changes.Put root number target.now) (W.state world.old) (W.state world.new) result }
 {
     let staged = match staged_path(alloc, roots, root, number) {
@@ -155,7 +155,8 @@ pub fn do_change<W: World>(
     change: &Change,
 ) -> Result<Option<Reply>, WorldError>
     requires rooted { ForSome (W.state world.old).tree (λ tree. (W.state world.old).roots ≡ roots.now) }
-    requires placed { is_well_placed roots.now change.now ≡ true }
+    requires placed { ForSome (W.state world.old).tree (λ tree.
+        is_well_placed roots.now change.now ≡ true) }
     ensures { DoesChange roots.now change.now (W.state world.old) (W.state world.new) result }
 {
     match change {
@@ -201,7 +202,8 @@ pub fn do_changes<W: World>(
     changes: &[Change],
 ) -> Result<Ran, WorldError>
     requires rooted { ForSome (W.state world.old).tree (λ tree. (W.state world.old).roots ≡ roots.now) }
-    requires placed { list_all (is_well_placed roots.now) changes.now ≡ true }
+    requires placed { ForSome (W.state world.old).tree (λ tree.
+        are_well_placed roots.now changes.now ≡ true) }
     ensures { DoesChanges roots.now changes.now (W.state world.old) (W.state world.new) result }
 {
     let mut ran = Ran {

@@ -51,7 +51,8 @@ pub fn commit<W: World>(alloc: Global, world: &mut W, txn: Txn) -> Result<Sequen
     requires rooted { ForSome (W.state world.old).tree (λ tree.
         (W.state world.old).roots ≡ txn.roots) }
     requires apart { AreApart txn.roots }
-    requires valid { is_valid txn.roots txn.intent.changes ≡ true }
+    requires valid { ForSome (W.state world.old).tree (λ tree.
+        is_valid txn.roots txn.intent.changes ≡ true) }
     requires dkms { ForSome (W.state world.old).tree (λ tree.
         is_dir (node_at tree txn.roots.dkms) ≡ true) }
     requires bare { ForSome (W.state world.old).tree (λ tree.

@@ -5,7 +5,6 @@ ghost use Rattle.kb_world.specs.Public.{intent_path, staging_path};
 ghost use Rattle.kb_world.specs.Roots.{AreApart};
 ghost use Rattle.kb_world.specs.State.{Changes};
 ghost use Rattle.kb_world.specs.Tree.{node_at, without, is_leaf};
-ghost use Rattle.kb_changes.specs.Valid.{is_valid};
 ghost use Rattle.kb_changes.specs.declared.change.Intent.{Intent};
 ghost use Rattle.kb_again.specs.Sparing.{areas_of};
 ghost use Rattle.kb_again.specs.Within.{staging_paths};
@@ -111,7 +110,6 @@ pub(crate) fn finish<W: World>(
     requires rooted { ForSome (W.state world.old).tree (λ tree.
         (W.state world.old).roots ≡ roots.now) }
     requires apart { AreApart roots.now }
-    requires valid { is_valid roots.now changes.now ≡ true }
     requires journal { ForSome (W.state world.old).tree (λ tree. (intent : Intent)
         × HasJournal roots.now intent tree × (intent.changes ≡ changes.now)) }
     ensures { EndsTransaction roots.now changes.now (W.state world.old) (W.state world.new) result }

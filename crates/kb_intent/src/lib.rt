@@ -16,7 +16,7 @@ mod txn;
 
 pub use changing::{Ran, do_change, do_changes};
 pub use committing::commit;
-pub use kb_changes::{Change, Intent, Recovered, RootName};
+pub use kb_changes::{Change, Intent, PatchPaths, Recovered, RootName};
 pub use kb_journal::{IntentError, read_intent, write_intent};
 pub use recovering::recover;
 pub use txn::Txn;

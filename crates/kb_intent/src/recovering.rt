@@ -4,7 +4,6 @@ ghost use Rattle.std.specs.Option.{ForSome};
 ghost use Rattle.kb_world.specs.Public.{intent_path};
 ghost use Rattle.kb_world.specs.Roots.{AreApart};
 ghost use Rattle.kb_world.specs.Tree.{node_at, is_file, file_bytes};
-ghost use Rattle.kb_changes.specs.Valid.{is_valid};
 ghost use Rattle.kb_changes.specs.declared.change.Intent.{Intent as AnIntent};
 ghost use Rattle.kb_intent.specs.Finish.{HasJournal};
 ghost use Rattle.kb_intent.specs.Recover.{Recovers};
@@ -28,7 +27,6 @@ fn recover_intent<W: World>(
     requires journal { ForSome (W.state world.old).tree (HasJournal roots.now intent) }
     requires only { ForSome (W.state world.old).tree (λ tree. (other : AnIntent)
         → HasJournal roots.now other tree → other ≡ intent) }
-    requires valid { is_valid roots.now intent.changes ≡ true }
     ensures { Recovers roots.now (W.state world.old) (W.state world.new) result }
 {
     match finish(alloc, world, roots, intent.changes.as_slice()) {

@@ -1,63 +1,22 @@
 // A transaction is put together.
 ghost use Rattle.std.specs.Prelude.{◌≡◌, ◌+◌, ◌<◌, ◌^◌, true, IfOk, OnErr, OnOk};
 ghost use Rattle.std.specs.Option.{ForSome};
+ghost use Rattle.kb_world.specs.Patch.{Patch};
 ghost use Rattle.kb_world.specs.Roots.{AreApart};
 ghost use Rattle.kb_world.specs.Tree.{node_at, is_dir};
 ghost use Rattle.kb_world.specs.declared.tree.Node.TheVariants as nodes;
 ghost use Rattle.kb_changes.specs.Change.{root_path};
+ghost use Rattle.kb_changes.specs.Changes as changes;
+ghost use Rattle.kb_changes.specs.Counts.{count_below};
+ghost use Rattle.kb_changes.specs.PatchPaths.{ArePathsOf};
 ghost use Rattle.kb_intent.specs.Staging.{staged_node};
-ghost use Rattle.kb_intent.specs.Txn.{BeginsTransaction, IsNewTransaction, IsStagedFor, Stages, count_below};
-ghost use Rattle.kb_intent.specs.Txn.{none_counted, one_more, with_change_behind};
+ghost use Rattle.kb_intent.specs.Txn.{BeginsTransaction, IsNewTransaction, IsStagedFor, Stages};
+ghost use Rattle.kb_intent.specs.Txn.{with_change_behind, with_changes_behind};
 
 use crate::staging::{Content, left_places, put_staged_content, wipe_each};
-use kb_changes::{Change, Intent, RootName, staged_path};
+use kb_changes::{Change, Counts, Intent, PatchPaths, RootName, changes_of, staged_path};
 use kb_world::{Job, Roots, Sequence, Stop, Text, Texts, World};
 use std::alloc::{AllocError, Global};
-
-// How many files and links are staged below each root.
-#[derive(Debug, Drop)]
-struct Counts {
-    dkms: u64,
-    src: u64,
-    modules: u64,
-    boot: u64,
-}
-
-impl Counts {
-    fn none() -> Counts
-        ensures { result ≡ none_counted }
-    {
-        Counts {
-            dkms: 0,
-            src: 0,
-            modules: 0,
-            boot: 0,
-        }
-    }
-
-    fn below(&self, root: RootName) -> u64
-        ensures { result ≡ count_below self.now root }
-    {
-        match root {
-            RootName::Dkms => self.dkms,
-            RootName::Src => self.src,
-            RootName::Modules => self.modules,
-            RootName::Boot => self.boot,
-        }
-    }
-
-    fn count(&mut self, root: RootName)
-        requires { count_below self.old root + 1 < 2 ^ 64 }
-        ensures { self.new ≡ one_more root self.old }
-    {
-        match root {
-            RootName::Dkms => self.dkms += 1,
-            RootName::Src => self.src += 1,
-            RootName::Modules => self.modules += 1,
-            RootName::Boot => self.boot += 1,
-        }
-    }
-}
 
 /// A transaction that is put together: files and links are staged for it, changes are added, and
 /// then it is committed.
@@ -90,7 +49,7 @@ impl Txn {
         })
     }
 
-    /// BeginsTransaction a transaction of the job: what an earlier one left staged goes, and a journal that it
+    /// Begins a transaction of the job: what an earlier one left staged goes, and a journal that it
     /// began.
     pub fn begin<W: World>(alloc: Global, world: &mut W, job: &Job) -> Result<Txn, Stop>
         requires { AreApart job.now.host.roots }
@@ -180,12 +139,26 @@ impl Txn {
         self.stage(alloc, world, root, &content)
     }
 
-    /// Adds a change behind the others. An error changes nothing. That the changes are valid together
-    /// is asked where they are committed.
+    /// Adds a change behind the others. An error changes nothing. That the changes are valid
+    /// together is asked where they are committed.
     pub fn add(&mut self, change: Change) -> Result<(), AllocError>
         ensures ok { OnOk result (self.new ≡ with_change_behind change self.old) }
         ensures err { OnErr result (self.new ≡ self.old) }
     {
         self.intent.changes.push(change)
+    }
+
+    /// Adds the changes of a patch with these paths behind the others. An error changes nothing.
+    /// The Puts below a root are numbered from 0: what they put has to be staged before all else.
+    pub fn add_all(&mut self, alloc: Global, paths: &PatchPaths) -> Result<(), AllocError>
+        ensures ok { OnOk result ((patch : Patch) → ArePathsOf patch paths.now
+            → self.new ≡ with_changes_behind (changes.changes_of self.old.roots patch) self.old) }
+        ensures err { OnErr result (self.new ≡ self.old) }
+    {
+        let mut made = changes_of(alloc, &self.roots, paths)?;
+        let mut all = self.intent.changes.as_slice().to_vec(alloc)?;
+        all.append(&mut made)?;
+        self.intent.changes = Sequence::from_items(all);
+        Ok(())
     }
 }

@@ -28,7 +28,7 @@ returns-in-Err g c =
     c.requires.can (g.met.W.World.formed c.args.world.now) c.args.report.now _ c.in-Err.stop c.in-Err.ensures
 
 pub commit-requires-clause-valid : goal.commit-requires-clause-valid
-commit-requires-clause-valid g c =
+commit-requires-clause-valid g c tree told =
     let source = c.args.source in
     add_is_valid source.job.now.host c.requires.apart source.key.now c.requires.named c.args.conf.now source.places.now c.requires.places _ c.as_ref.ensures.value c.in_ok-request.request c.in_ok-request.ensures _ _
     c.requires.can (g.met.W.World.formed c.args.world.now) c.in-Ok.txn c.in-Ok.ensures (g.met.W.World.formed c.prepare.new.world)

@@ -15,7 +15,7 @@ returns-in-Err g c =
 pub put_from-requires : goal.put_from-requires
 put_from-requires g c tree told =
     ap (λ roots. share_root roots c.in-Ok.staged c.args.target.now) (c.requires.rooted tree told)
-    ∙ shares_root c.args.roots.now c.args.root c.args.number c.in-Ok.staged c.args.target.now c.in-Ok.ensures c.requires.placed
+    ∙ shares_root c.args.roots.now c.args.root c.args.number c.in-Ok.staged c.args.target.now c.in-Ok.ensures (c.requires.placed tree told)
 
 pub returns-in-Ok-put_from : goal.returns-in-Ok-put_from
 returns-in-Ok-put_from g c =

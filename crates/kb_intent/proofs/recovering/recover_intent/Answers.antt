@@ -1,8 +1,11 @@
 -- It is finished, or a call stopped it.
-use Rattle.std.proofs.Common.{Ok, Err, subst}
+use Rattle.std.proofs.Common.{Ok, Err, subst, sym}
 use Rattle.kb_intent.specs.Finish.{EndsTransaction}
 use Rattle.kb_intent.proofs.RecoverLaws.{recovers_done, recovers_cut}
 use Rattle.kb_intent.proofs.recovering.recover_intent.Goals as goal
+
+pub finish-requires-clause-journal : goal.finish-requires-clause-journal
+finish-requires-clause-journal g c tree told = (c.args.intent, c.requires.journal tree told, sym c.as_slice.ensures)
 
 pub returns-in-Ok : goal.returns-in-Ok
 returns-in-Ok g c =
