@@ -8,6 +8,7 @@ use Rattle.kb_world.specs.Path.{Path, is_under}
 use Rattle.kb_world.specs.Tree.{Tree, node_at, link_text}
 use Rattle.kb_world.specs.Roots.{AreApart}
 use Rattle.kb_world.specs.Public.{public_tree}
+use Rattle.kb_world.specs.Layout.{whole_tree}
 use Rattle.kb_world.specs.Damage.{hurt}
 use Rattle.kb_world.specs.Store.{is_key, says, module_path, version_path, link_path, source_path, source_text}
 use Rattle.kb_world.specs.Steps.{blocking, add_step}
@@ -23,6 +24,7 @@ use Rattle.kb_world.proofs.NameLaws.{known, begins-append}
 use Rattle.kb_world.proofs.PathLaws.{elsewhere, under-append, apart-back}
 use Rattle.kb_world.proofs.PublicPlaces.{public_place}
 use Rattle.kb_world.proofs.StorePathLaws.{link_no_scratch}
+use Rattle.kb_world.proofs.LayoutLaws.{whole_shown}
 use Rattle.kb_world.proofs.PublicLaws.{IsAlwaysPublic, written_apart, in_dkms, in_src, shown}
 use Rattle.kb_world.proofs.StepLaws.{blocking-same}
 use Rattle.kb_conf.specs.Load.{conf_below, loaded_conf}
@@ -61,12 +63,8 @@ are_public roots apart key good =
 
 -- ---- what is read
 
-pub standing_shown : (roots : Roots) → AreApart roots → (key : Key) → is_key key ≡ true → (tree : Tree)
-    → standing key (link_path roots key) tree ≡ standing key (link_path roots key) (public_tree roots tree)
-standing_shown roots apart key good tree = ap (λ (at : Option Node). cond (is_some at) (Some (refusal.AlreadyAdded key)) None) (sym (shown roots tree _ (are_public roots apart key good).link))
-
 -- in a store with no damage what stands at a version's link says that it is added
-pub standing_is_added : (roots : Roots) (key : Key) → is_key key ≡ true → (store : Tree) → hurt roots store ≡ None → standing key (link_path roots key) store ≡ already_added roots key store
+standing_is_added : (roots : Roots) (key : Key) → is_key key ≡ true → (store : Tree) → hurt roots store ≡ None → standing key (link_path roots key) store ≡ already_added roots key store
 standing_is_added roots key good store sound = by_case (node_at store (link_path roots key)) refl
   where
     by_case : (at : Option Node) → node_at store (link_path roots key) ≡ at → standing key (link_path roots key) store ≡ already_added roots key store
@@ -78,13 +76,23 @@ standing_is_added roots key good store sound = by_case (node_at store (link_path
         let added = (sound_from roots store sound).sources key.module key.version good stands in
         ap (λ b. cond b (Some (refusal.AlreadyAdded key)) None) stands ∙ sym (ap (λ b. cond b (Some (refusal.AlreadyAdded key)) None) added)
 
+-- what stands at a version's link
+pub standing_shown : (roots : Roots) → AreApart roots → (key : Key) → is_key key ≡ true → (tree : Tree) → hurt roots (public_tree roots tree) ≡ None
+    → standing key (link_path roots key) tree ≡ already_added roots key (whole_tree roots tree)
+standing_shown roots apart key good tree sound =
+    let link = (are_public roots apart key good).link in
+    let store = sym (shown roots tree (link_path roots key) link) in
+    ap (λ (at : Option Node). cond (is_some at) (Some (refusal.AlreadyAdded key)) None) store
+    ∙ standing_is_added roots key good (public_tree roots tree) sound
+    ∙ ap (λ (at : Option Node). cond (says (source_text roots key) (link_text at)) (Some (refusal.AlreadyAdded key)) None) (sym store ∙ sym (whole_shown roots tree (link_path roots key) link))
+
 -- the conf is read of what is public
 pub conf_shown : (roots : Roots) → AreApart roots → (key : Key) → is_key key ≡ true → (given : Given) (tree : Tree)
-    → loaded_conf (source_path roots key) (Some key) given tree ≡ loaded_conf (source_path roots key) (Some key) given (public_tree roots tree)
+    → loaded_conf (source_path roots key) (Some key) given tree ≡ loaded_conf (source_path roots key) (Some key) given (whole_tree roots tree)
 unfolding loaded_conf
 conf_shown roots apart key good given tree =
     let open_to = are_public roots apart key good in
-    same_conf (source_path roots key) tree (public_tree roots tree) (sym (shown roots tree _ open_to.source)) (sym (shown roots tree _ open_to.conf))
+    same_conf (source_path roots key) tree (whole_tree roots tree) (sym (whole_shown roots tree _ open_to.source)) (sym (whole_shown roots tree _ open_to.conf))
   where
     same_conf : (dir : Path) (a b : Tree) → node_at a dir ≡ node_at b dir → node_at a (conf_below dir) ≡ node_at b (conf_below dir)
         → loaded_conf dir (Some key) given a ≡ loaded_conf dir (Some key) given b
@@ -95,13 +103,13 @@ first_some None b f = refl
 first_some (Some x) b f = refl
 
 pub blocked_shown : (roots : Roots) → AreApart roots → (key : Key) → is_key key ≡ true → (tree : Tree)
-    → place_blocked (package_places roots key) tree ≡ blocked roots key (public_tree roots tree)
+    → place_blocked (package_places roots key) tree ≡ blocked roots key (whole_tree roots tree)
 blocked_shown roots apart key good tree =
     let open_to = are_public roots apart key good in
-    let store = public_tree roots tree in
+    let whole = whole_tree roots tree in
     first_some (blocking (module_path roots key) tree) (blocking (version_path roots key) tree) refusal.Damaged
-    ∙ ap (λ path. option_map refusal.Damaged (option_or path (blocking (version_path roots key) tree))) (blocking-same (module_path roots key) tree store (sym (shown roots tree _ open_to.package_directory)))
-    ∙ ap (λ path. option_map refusal.Damaged (option_or (blocking (module_path roots key) store) path)) (blocking-same (version_path roots key) tree store (sym (shown roots tree _ open_to.version)))
+    ∙ ap (λ path. option_map refusal.Damaged (option_or path (blocking (version_path roots key) tree))) (blocking-same (module_path roots key) tree whole (sym (whole_shown roots tree _ open_to.package_directory)))
+    ∙ ap (λ path. option_map refusal.Damaged (option_or (blocking (module_path roots key) whole) path)) (blocking-same (version_path roots key) tree whole (sym (whole_shown roots tree _ open_to.version)))
 
 -- ---- what the step leaves
 

@@ -15,6 +15,7 @@ use Rattle.kb_world.specs.Damage.{hurt}
 use Rattle.kb_world.specs.Store.{is_key, module_path, version_path, link_path, source_path}
 use Rattle.kb_world.specs.Steps.{blocking}
 use Rattle.kb_world.specs.Public.{intent_path, public_tree}
+use Rattle.kb_world.specs.Layout.{whole_tree}
 use Rattle.kb_world.specs.Outcome.{unless, warn, reads, ◌then◌}
 use Rattle.kb_world.specs.Does.{Decides, Agrees, Gives}
 use Rattle.kb_world.specs.declared.roots.Roots.{Roots}
@@ -40,7 +41,7 @@ use Rattle.kb_dkms.specs.Host.{is_kernel_if_any, host_keeps_rules}
 use Rattle.kb_dkms.specs.Commit.{IsUnadded, CanAdd}
 use Rattle.kb_dkms.specs.Places.{package_places, standing, blocked_by, place_blocked}
 use Rattle.kb_dkms.specs.Scripts.{host_given, warning_line}
-use Rattle.kb_dkms.proofs.AddLaws.{standing_shown, standing_is_added, conf_shown, blocked_shown}
+use Rattle.kb_dkms.proofs.AddLaws.{standing_shown, conf_shown, blocked_shown}
 
 -- the kernel of a host that keeps its rules can name an entry of a directory
 pub kernel_named : (host : Host) → host_keeps_rules host ≡ true → (kernel : List ℕ) → host.kernel ≡ Some kernel → is_name kernel ≡ true
@@ -107,9 +108,9 @@ one_more names i d name before err more line lt named so_far is pushed =
     let told : warning_line line ≡ unused_lines (last ∷ []) = ap warning_line is ∙ ap (λ n. warning_line (codes "dkms.conf: " ++ n ++ codes " is not used")) named ∙ sym (append-nil _) in
     pushed ∙ ap (λ t. err ++ t) told ∙ ap (λ t. t ++ unused_lines (last ∷ [])) so_far ∙ append_assoc before (unused_lines (take i names)) (unused_lines (last ∷ [])) ∙ ap (λ t. before ++ t) (sym joined)
 
--- what is in the way is that of the public tree
+-- what is in the way stands in the whole tree
 read_blocked : (roots : Roots) → AreApart roots → (key : Key) → is_key key ≡ true → (places : Places) → places ≡ package_places roots key → (tree : Tree)
-    → place_blocked places tree ≡ blocked roots key (public_tree roots tree)
+    → place_blocked places tree ≡ blocked roots key (whole_tree roots tree)
 read_blocked roots apart key good places are tree = ap (λ (p : Places). place_blocked p tree) are ∙ blocked_shown roots apart key good tree
 
 pub warned_blocked : (host : Host) → AreApart host.roots → (key : Key) → is_key key ≡ true → (script : Script) (conf : Conf) (places : Places) → places ≡ package_places host.roots key
@@ -151,10 +152,10 @@ abbrev pub IsUnhurt : Roots → State → Type 0
 IsUnhurt roots old = ForSome old.tree (λ tree. hurt roots (public_tree roots tree) ≡ None)
 
 decides_added : (roots : Roots) → AreApart roots → (key : Key) → is_key key ≡ true → (link : Path) → link ≡ link_path roots key → (old mid : State) (result : Result (Unit {0}) Stop) → IsUnhurt roots old
-    → Decides (standing key link) {T = Unit {0}} old mid result → Decides (λ tree. already_added roots key (public_tree roots tree)) {T = Unit {0}} old mid result
+    → Decides (standing key link) {T = Unit {0}} old mid result → Decides (λ tree. already_added roots key (whole_tree roots tree)) {T = Unit {0}} old mid result
 decides_added roots apart key good link is old mid result sound =
-    decides_as (standing key link) (λ tree. already_added roots key (public_tree roots tree)) old mid result (λ tree told.
-    ap (λ p. standing key p tree) is ∙ standing_shown roots apart key good tree ∙ standing_is_added roots key good (public_tree roots tree) (sound tree told))
+    decides_as (standing key link) (λ tree. already_added roots key (whole_tree roots tree)) old mid result (λ tree told.
+    ap (λ p. standing key p tree) is ∙ standing_shown roots apart key good tree (sound tree told))
 
 -- what a conf is read for is what the host gives
 pub for_host : (host : Host) (kernel : Option (List ℕ)) (given : Given) → kernel ≡ host.kernel → given ≡ given_for host.roots kernel host.arch → given ≡ host_given host
@@ -165,12 +166,12 @@ pub add_refused : (host : Host) → AreApart host.roots → (key : Key) → is_k
     → IsUnhurt host.roots old → Decides (standing key link) {T = Unit {0}} old mid (Err stop) → DoesAcrossCrashes host.roots (add host script key) {T = Unit {0}} old mid report report (Err stop)
 add_refused host apart key good script link is old mid report stop sound d =
     let roots = host.roots in
-    refused roots (λ tree. already_added roots key (public_tree roots tree)) (already_added roots key) (reads (source_conf host key) (add_with host script key)) old mid report stop (λ tree. refl)
+    refused roots (λ tree. already_added roots key (whole_tree roots tree)) (already_added roots key) (reads (source_conf host key) (add_with host script key)) old mid report stop (λ tree. refl)
     (decides_added roots apart key good link is old mid (Err stop) sound d)
 
--- what is read of the source is what the public tree gives
+-- what is read of the source is what the whole tree gives
 read_conf : (host : Host) → AreApart host.roots → (key : Key) → is_key key ≡ true → (dir : Path) → dir ≡ source_path host.roots key → (given : Given) → given ≡ host_given host → (tree : Tree)
-    → loaded_conf dir (Some key) given tree ≡ source_conf host key (public_tree host.roots tree)
+    → loaded_conf dir (Some key) given tree ≡ source_conf host key (whole_tree host.roots tree)
 read_conf host apart key good dir at given is tree =
     ap (λ p. loaded_conf p (Some key) given tree) at ∙ ap (λ (g : Given). loaded_conf (source_path host.roots key) (Some key) g tree) is ∙ conf_shown host.roots apart key good (host_given host) tree
 
@@ -181,7 +182,7 @@ pub add_unread : (host : Host) → AreApart host.roots → (key : Key) → is_ke
 add_unread host apart key good script link is dir at given for old mid new report stop sound d g =
     let roots = host.roots in
     let next = reads (source_conf host key) (add_with host script key) in
-    passed roots (λ tree. already_added roots key (public_tree roots tree)) (already_added roots key) next old mid new report report (Err stop) (λ tree. refl)
+    passed roots (λ tree. already_added roots key (whole_tree roots tree)) (already_added roots key) next old mid new report report (Err stop) (λ tree. refl)
     (decides_added roots apart key good link is old mid (Ok tt) sound d)
     (unread {A = Conf} roots (loaded_conf dir (Some key) given) (source_conf host key) (add_with host script key) mid new report stop (read_conf host apart key good dir at given for) g)
 
@@ -194,7 +195,7 @@ add_read host apart key good link is dir at given for conf old mid late new befo
     let roots = host.roots in
     let next = reads (source_conf host key) (add_with host old.script key) in
     let P : Script → Type 0 = λ s. DoesAcrossCrashes roots (add_with host s key conf) late new before after result in
-    passed roots (λ tree. already_added roots key (public_tree roots tree)) (already_added roots key) next old mid new before after result (λ tree. refl)
+    passed roots (λ tree. already_added roots key (whole_tree roots tree)) (already_added roots key) next old mid new before after result (λ tree. refl)
     (decides_added roots apart key good link is old mid (Ok tt) sound d)
     (read_on {A = Conf} roots (loaded_conf dir (Some key) given) (source_conf host key) (add_with host old.script key) conf mid late new before after result
     (read_conf host apart key good dir at given for) g (subst P (g.unchanged.ran_none.lasts.script ∙ d.unchanged.ran_none.lasts.script) e))

@@ -18,7 +18,7 @@ use Rattle.kb_conf.specs.Load.{loaded_conf}
 use Rattle.kb_dkms.specs.Scripts.{host_given, warning_line, run_script}
 
 abbrev pub already_added : Roots → Key → Tree → Option Refusal
-already_added roots key store = cond (is_added roots key store) (Some (refusal.AlreadyAdded key)) None
+already_added roots key tree = cond (is_added roots key tree) (Some (refusal.AlreadyAdded key)) None
 
 -- the conf of the package's source, or the first refusal of it
 abbrev pub source_conf : Host → Key → Tree → Result Conf Refusal
@@ -30,7 +30,7 @@ unused_lines names = flat_map (λ name. warning_line (codes "dkms.conf: " ++ nam
 
 -- something else stands where the step needs a directory
 abbrev pub blocked : Roots → Key → Tree → Option Refusal
-blocked roots key store = option_map refusal.Damaged (add_blocked roots key store)
+blocked roots key tree = option_map refusal.Damaged (add_blocked roots key tree)
 
 -- the line that is printed once the package is added
 abbrev pub added_line : Key → List ℕ

@@ -1,11 +1,13 @@
 -- A call that only looks, before an action or in place of it.
 use Rattle.std.proofs.Common.{◌≡◌, ℕ, List, [], ◌∷◌, ◌++◌, Option, Some, None, refl, sym, ap, ◌∙◌, subst, inl}
 use Rattle.std.specs.Prelude.{Result, Ok, Err}
+use Rattle.std.specs.Option.{ForSome}
 use Rattle.kb_world.specs.Crash.{LeftOf, Adds, History}
 use Rattle.kb_world.specs.Does.{Agrees, Decides, Gives, IsAnswer}
+use Rattle.kb_world.specs.Layout.{united, whole_tree}
 use Rattle.kb_world.specs.Outcome.{Action, last_of, go_on, refuse_if, unless, by_answer, reads, warn, ◌then◌}
 use Rattle.kb_world.specs.Public.{public_tree, foreign_tree}
-use Rattle.kb_world.specs.State.{State, Unchanged}
+use Rattle.kb_world.specs.State.{State, HasCause, Lasts, Unchanged}
 use Rattle.kb_world.specs.Tree.{Tree}
 use Rattle.kb_world.specs.declared.job.Report.{Report}
 use Rattle.kb_world.specs.declared.refusal.Refusal.{Refusal}
@@ -80,14 +82,14 @@ module _ (roots : Roots) (old mid : State) (same : Unchanged old mid) where
 
 -- ---- a refusal that is decided on
 
-unless_stops : (due : Tree → Option Refusal) (second : Action) (store foreign : Tree) (why : Refusal) → due store ≡ Some why → ((unless due then second) store foreign).after ≡ []
+unless_stops : (due : Tree → Option Refusal) (second : Action) (store foreign : Tree) (why : Refusal) → due (united store foreign) ≡ Some why → ((unless due then second) store foreign).after ≡ []
 unless_stops due second store foreign why is = ap (λ (o : Option Refusal). (go_on store (refuse_if o store foreign) second).after) is
 
-unless_goes : (due : Tree → Option Refusal) (second : Action) (store foreign : Tree) → due store ≡ None → ((unless due then second) store foreign).after ≡ (second store foreign).after
+unless_goes : (due : Tree → Option Refusal) (second : Action) (store foreign : Tree) → due (united store foreign) ≡ None → ((unless due then second) store foreign).after ≡ (second store foreign).after
 unless_goes due second store foreign is = ap (λ (o : Option Refusal). (go_on store (refuse_if o store foreign) second).after) is
 
 pub refused : (roots : Roots) (read due : Tree → Option Refusal) (second : Action) (old mid : State) (report : Report) (stop : Stop)
-    → ((tree : Tree) → read tree ≡ due (public_tree roots tree)) → Decides read {T = Unit {0}} old mid (Err stop)
+    → ((tree : Tree) → read tree ≡ due (whole_tree roots tree)) → Decides read {T = Unit {0}} old mid (Err stop)
     → DoesAcrossCrashes roots (unless due then second) {T = Unit {0}} old mid report report (Err stop)
 refused roots read due second old mid report stop same d = record {
   does = decides.does_refused roots read due second old mid report stop same d;
@@ -99,7 +101,7 @@ refused roots read due second old mid report stop same d = record {
     by tree told why is = subst (λ (s : Stop). Agrees {T = Unit {0}} (Err s) (read tree)) is (d.agrees tree told)
 
 pub passed : (roots : Roots) (read due : Tree → Option Refusal) (second : Action) (old mid new : State) (before after : Report) (result : Result (Unit {0}) Stop)
-    → ((tree : Tree) → read tree ≡ due (public_tree roots tree)) → Decides read {T = Unit {0}} old mid (Ok tt) → DoesAcrossCrashes roots second mid new before after result
+    → ((tree : Tree) → read tree ≡ due (whole_tree roots tree)) → Decides read {T = Unit {0}} old mid (Ok tt) → DoesAcrossCrashes roots second mid new before after result
     → DoesAcrossCrashes roots (unless due then second) old new before after result
 passed roots read due second old mid new before after result same d e = record {
   does = decides.does_passed roots read due second old mid new before after result same d e.does;
@@ -110,7 +112,7 @@ passed roots read due second old mid new before after result same d e = record {
 -- ---- what is read says how it goes on
 
 pub unread : {A : Type 0} (roots : Roots) (read right : Tree → Result A Refusal) (next : A → Action) (old mid : State) (report : Report) (stop : Stop)
-    → ((tree : Tree) → read tree ≡ right (public_tree roots tree)) → Gives {T = A} read old mid (Err stop)
+    → ((tree : Tree) → read tree ≡ right (whole_tree roots tree)) → Gives {T = A} read old mid (Err stop)
     → DoesAcrossCrashes roots (reads right next) {T = Unit {0}} old mid report report (Err stop)
 unread {A = A} roots read right next old mid report stop same g = record {
   does = low.does_unread {A = A} roots read right next old mid report stop same g;
@@ -122,12 +124,21 @@ unread {A = A} roots read right next old mid report stop same g = record {
     by tree told why is = subst (λ (s : Stop). IsAnswer {T = A} (Err s) (read tree)) is (g.answers tree told)
 
 pub read_on : {A : Type 0} (roots : Roots) (read right : Tree → Result A Refusal) (next : A → Action) (value : A) (old mid new : State) (before after : Report) (result : Result (Unit {0}) Stop)
-    → ((tree : Tree) → read tree ≡ right (public_tree roots tree)) → Gives {T = A} read old mid (Ok value) → DoesAcrossCrashes roots (next value) mid new before after result
+    → ((tree : Tree) → read tree ≡ right (whole_tree roots tree)) → Gives {T = A} read old mid (Ok value) → DoesAcrossCrashes roots (next value) mid new before after result
     → DoesAcrossCrashes roots (reads right next) old new before after result
 read_on {A = A} roots read right next value old mid new before after result same g e = record {
   does = low.does_read {A = A} roots read right next value old mid new before after result same g e.does;
   survives = looked_on roots old mid g.unchanged (reads right next) (next value) new result
       (λ tree told. ap (λ r. (by_answer next r (public_tree roots tree) (foreign_tree roots tree)).after) (sym (same tree) ∙ g.answers tree told)) e.survives;
+}
+
+-- it goes on with the whole that stands
+pub whole_on : (roots : Roots) (next : Tree → Action) (old new : State) (before after : Report) (result : Result (Unit {0}) Stop)
+    → Lasts old new → HasCause Fault old new result → ForSome old.tree (λ tree. DoesAcrossCrashes roots (next (whole_tree roots tree)) old new before after result)
+    → DoesAcrossCrashes roots (reads Ok next) old new before after result
+whole_on roots next old new before after result lasts cause d = record {
+  does = low.does_whole roots next old new before after result lasts cause (λ tree told. (d tree told).does);
+  survives = λ tree told. (d tree told).survives tree told;
 }
 
 -- ---- a text for standard error

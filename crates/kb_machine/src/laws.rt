@@ -1,6 +1,8 @@
 // The laws, each the contract of a function that does nothing.
 ghost use Rattle.std.specs.Prelude.{◌≡◌, ◌⊎◌, ◌<◌, ◌+◌, [], ◌∷◌, ◌++◌, List, ℕ, length, drop, flat_map, get_or, false, true, Ok, Err, Result, Some, Option};
-ghost use Rattle.kb_world.specs.Outcome.{Action, asks, print, transaction, unless, warn, ◌then◌};
+ghost use Rattle.std.specs.Option.{ForSome};
+ghost use Rattle.kb_world.specs.Layout.{whole_tree};
+ghost use Rattle.kb_world.specs.Outcome.{Action, asks, print, reads, transaction, unless, warn, ◌then◌};
 ghost use Rattle.kb_world.specs.Path.{Path};
 ghost use Rattle.kb_world.specs.Public.{intent_path, public_tree, foreign_tree};
 ghost use Rattle.kb_world.specs.Script.{Script};
@@ -107,11 +109,19 @@ pub fn a_step_and_a_child_are_one_transaction()
 /// A call that only looks comes before an action: where it finds a cause the action is refused, else it goes on.
 pub fn a_cause_is_looked_for()
     ensures refused { (roots : Roots) (read due : Tree → Option Refusal) (second : Action) (old mid : State) (report : Report) (stop : Stop) (result : Result (Unit {0}) Stop)
-        → result ≡ Err stop → ((tree : Tree) → read tree ≡ due (public_tree roots tree)) → Decides read old mid result
+        → result ≡ Err stop → ((tree : Tree) → read tree ≡ due (whole_tree roots tree)) → Decides read old mid result
         → DoesAcrossCrashes roots (unless due then second) old mid report report result }
     ensures passed { (roots : Roots) (read due : Tree → Option Refusal) (second : Action) (old mid new : State) (before after : Report) (found result : Result (Unit {0}) Stop)
-        → found ≡ Ok tt → ((tree : Tree) → read tree ≡ due (public_tree roots tree)) → Decides read old mid found → DoesAcrossCrashes roots second mid new before after result
+        → found ≡ Ok tt → ((tree : Tree) → read tree ≡ due (whole_tree roots tree)) → Decides read old mid found → DoesAcrossCrashes roots second mid new before after result
         → DoesAcrossCrashes roots (unless due then second) old new before after result }
+{}
+
+/// An action goes on from the whole that stands when it begins, all that isn't private.
+pub fn an_action_goes_on_from_the_whole()
+    ensures { (roots : Roots) (next : Tree → Action) (old new : State) (before after : Report) (result : Result (Unit {0}) Stop)
+        → Lasts old new → HasCause Fault old new result
+        → ForSome old.tree (λ tree. DoesAcrossCrashes roots (next (whole_tree roots tree)) old new before after result)
+        → DoesAcrossCrashes roots (reads Ok next) old new before after result }
 {}
 
 /// An action goes on from work that was done aside, and ends where that stopped.

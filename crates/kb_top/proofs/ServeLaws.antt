@@ -9,6 +9,7 @@ use Rattle.kb_world.specs.Tree.{Tree, node_at, is_dir}
 use Rattle.kb_world.specs.Roots.{AreApart}
 use Rattle.kb_world.specs.State.{State}
 use Rattle.kb_world.specs.Public.{public_tree}
+use Rattle.kb_world.specs.Layout.{whole_tree}
 use Rattle.kb_world.specs.Outcome.{refuse_if, print, ◌then◌}
 use Rattle.kb_world.specs.Read.{IsRead}
 use Rattle.kb_world.specs.declared.roots.Roots.{Roots}
@@ -18,13 +19,16 @@ use Rattle.kb_world.specs.declared.refusal.Refusal.{Refusal}
 use Rattle.kb_world.specs.declared.refusal.Refusal.TheVariants as refusal
 use Rattle.kb_world.specs.declared.stop.Stop.{Stop}
 use Rattle.kb_world.specs.declared.stop.Stop.TheVariants.{Refused, Fault, NoMemory}
-use Rattle.kb_world.proofs.PublicLaws.{IsAlwaysPublic, in_dkms, in_src, shown}
+use Rattle.kb_world.proofs.PublicLaws.{IsAlwaysPublic, in_dkms, in_src}
+use Rattle.kb_world.proofs.LayoutLaws.{whole_shown, public_whole}
 use Rattle.kb_world.proofs.CrashLaws.{adds_none}
 use Rattle.kb_world.proofs.ThenLaws.{stays_refused}
 use Rattle.kb_machine.specs.Across.{DoesAcrossCrashes}
 use Rattle.kb_machine.proofs.EachLaws.{printed, unprinted}
 use Rattle.kb_machine.proofs.LookLaws.{warned}
 use Rattle.kb_machine.proofs.ThenLaws.{does_then}
+use Rattle.kb_store.specs.Read.{read_of}
+use Rattle.kb_store.proofs.PublicNotes.{read_public}
 use Rattle.kb_dkms.specs.Host.{is_kernel_if_any, host_keeps_rules}
 use Rattle.kb_words.specs.declared.command.Command.{Command}
 use Rattle.kb_words.specs.Words.{Word}
@@ -41,8 +45,12 @@ src_public roots apart = subst (IsAlwaysPublic roots) (append-nil roots.src) (in
 same_roots_of_add : (roots : Roots) (a b : Tree) → node_at a roots.dkms ≡ node_at b roots.dkms → node_at a roots.src ≡ node_at b roots.src → no_roots_of_add roots a ≡ no_roots_of_add roots b
 same_roots_of_add roots a b dkms src = cc
 
-pub roots_shown : (roots : Roots) → AreApart roots → (tree : Tree) → no_roots_of_add roots tree ≡ no_roots_of_add roots (public_tree roots tree)
-roots_shown roots apart tree = same_roots_of_add roots tree (public_tree roots tree) (sym (shown roots tree roots.dkms (dkms_public roots apart))) (sym (shown roots tree roots.src (src_public roots apart)))
+pub roots_shown : (roots : Roots) → AreApart roots → (tree : Tree) → no_roots_of_add roots tree ≡ no_roots_of_add roots (whole_tree roots tree)
+roots_shown roots apart tree = same_roots_of_add roots tree (whole_tree roots tree) (sym (whole_shown roots tree roots.dkms (dkms_public roots apart))) (sym (whole_shown roots tree roots.src (src_public roots apart)))
+
+-- the store is read of what is public
+pub store_shown : (roots : Roots) → AreApart roots → (tree : Tree) → read_of roots (public_tree roots tree) ≡ read_of roots (whole_tree roots tree)
+store_shown roots apart tree = ap (read_of roots) (sym (public_whole roots tree)) ∙ read_public roots apart (whole_tree roots tree)
 
 -- where no root is missing, the dkms root is a directory
 pub dkms_there : (roots : Roots) (tree : Tree) → no_roots_of_add roots tree ≡ None → is_dir (node_at tree roots.dkms) ≡ true

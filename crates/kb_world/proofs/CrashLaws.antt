@@ -1,9 +1,9 @@
 -- Moments that were added one after another.
-use Rattle.std.proofs.Common.{◌≡◌, ◌⊎◌, List, [], ◌∷◌, ◌++◌, length, drop, refl, sym, ap, ◌∙◌, inl, inr, append_assoc}
+use Rattle.std.proofs.Common.{◌≡◌, ◌⊎◌, List, [], ◌∷◌, ◌++◌, length, drop, sym, ap, ◌∙◌, inl, inr, append_assoc}
 use Rattle.std.proofs.lemmas.List.{append-nil}
 use Rattle.std.proofs.Math.Seq.{drop-append_seam}
 use Rattle.kb_world.specs.Tree.{Tree}
-use Rattle.kb_world.specs.Crash.{Moment, History, IsImage, IsImageOfOne, moments_since, Adds, Turns}
+use Rattle.kb_world.specs.Crash.{Moment, History, IsImageOfOne, moments_since, Adds, Turns}
 
 pub image-append : (xs ys : List Moment) (image : Tree) → IsImageOfOne (xs ++ ys) image → IsImageOfOne xs image ⊎ IsImageOfOne ys image
 image-append [] ys image left = inr left

@@ -7,6 +7,7 @@ use Rattle.kb_world.specs.State.{State, HasCause, Rose, Lasts, RanNone, Unchange
 use Rattle.kb_world.specs.Public.{public_tree, foreign_tree}
 use Rattle.kb_world.specs.Outcome.{Outcome, Action, refuse_if, unless, transaction, go_on, ◌then◌}
 use Rattle.kb_world.specs.Does.{CameAbout, Does, Decides, Transforms, Answers}
+use Rattle.kb_world.specs.Layout.{united, whole_tree}
 use Rattle.kb_world.specs.declared.roots.Roots.{Roots}
 use Rattle.kb_world.specs.declared.job.Report.{Report}
 use Rattle.kb_world.specs.declared.refusal.Refusal.{Refusal}
@@ -41,16 +42,16 @@ unchanged_then old mid new a b = record { tree = b.tree ∙ a.tree; history = b.
 
 -- ---- an action that may be refused first
 
-pub unless_refused : (due : Tree → Option Refusal) (second : Action) (store foreign : Tree) (refusal : Refusal) → due store ≡ Some refusal
+pub unless_refused : (due : Tree → Option Refusal) (second : Action) (store foreign : Tree) (refusal : Refusal) → due (united store foreign) ≡ Some refusal
     → (unless due then second) store foreign ≡ refuse_if (Some refusal) store foreign
 unless_refused due second store foreign refusal is = ap (λ d. go_on store (refuse_if d store foreign) second) is
 
-pub unless_passed : (due : Tree → Option Refusal) (second : Action) (store foreign : Tree) → due store ≡ None → (unless due then second) store foreign ≡ second store foreign
+pub unless_passed : (due : Tree → Option Refusal) (second : Action) (store foreign : Tree) → due (united store foreign) ≡ None → (unless due then second) store foreign ≡ second store foreign
 unless_passed due second store foreign is = ap (λ d. go_on store (refuse_if d store foreign) second) is
 
 -- a refusal, and the tree and the report as they were
 pub came_refused : (roots : Roots) (due : Tree → Option Refusal) (second : Action) (tree : Tree) (old mid : State) (refusal : Refusal) (report : Report)
-    → due (public_tree roots tree) ≡ Some refusal → mid.tree ≡ Some tree → mid.ran ≡ old.ran
+    → due (whole_tree roots tree) ≡ Some refusal → mid.tree ≡ Some tree → mid.ran ≡ old.ran
     → CameAbout roots (public_tree roots tree) ((unless due then second) (public_tree roots tree) (foreign_tree roots tree)) (Some refusal) old mid report report
 came_refused roots due second tree old mid refusal report is told ran =
     let P : Outcome → Type 0 = λ outcome. CameAbout roots (public_tree roots tree) outcome (Some refusal) old mid report report in
@@ -64,7 +65,7 @@ came_refused roots due second tree old mid refusal report is told ran =
 
 -- the call that decides on the refusal was refused
 pub does_refused : (roots : Roots) (read due : Tree → Option Refusal) (second : Action) (old mid : State) (report : Report) (stop : Stop)
-    → ((tree : Tree) → read tree ≡ due (public_tree roots tree)) → Decides read {T = Unit {0}} old mid (Err stop)
+    → ((tree : Tree) → read tree ≡ due (whole_tree roots tree)) → Decides read {T = Unit {0}} old mid (Err stop)
     → Does roots (unless due then second) {T = Unit {0}} old mid report report (Err stop)
 does_refused roots read due second old mid report (Refused refusal) same d = record {
   answers = λ tree told rooted. came_refused roots due second tree old mid refusal report (sym (same tree) ∙ d.agrees tree told) (d.unchanged.tree ∙ told) d.unchanged.ran_none.ran;
@@ -84,7 +85,7 @@ answers_since roots store outcome old mid new before after (Err NoMemory) ran a 
 
 -- it wasn't, and the second part does what it does
 pub does_passed : (roots : Roots) (read due : Tree → Option Refusal) (second : Action) (old mid new : State) (before after : Report) (result : Result (Unit {0}) Stop)
-    → ((tree : Tree) → read tree ≡ due (public_tree roots tree)) → Decides read {T = Unit {0}} old mid (Ok tt) → Does roots second mid new before after result
+    → ((tree : Tree) → read tree ≡ due (whole_tree roots tree)) → Decides read {T = Unit {0}} old mid (Ok tt) → Does roots second mid new before after result
     → Does roots (unless due then second) old new before after result
 does_passed roots read due second old mid new before after result same d e = record {
   answers = λ tree told rooted.

@@ -10,8 +10,8 @@ use Rattle.kb_world.specs.Tree.{Tree, node_at, is_dir}
 use Rattle.kb_world.specs.View.{is_own, is_index, sees, view_of}
 use Rattle.kb_world.specs.declared.child.Request.{Request}
 use Rattle.kb_world.specs.TreeLaws.{paths_total, node_at-retain, same_tree}
-use Rattle.kb_world.specs.Public.{is_private, is_public, is_loose, public_tree, foreign_tree}
-use Rattle.kb_world.specs.Layout.{united, is_source_link, is_in_box, is_kernel_link, is_in_chest, is_in_rest, source_links, boxes, kernel_links, chests, rest, layout}
+use Rattle.kb_world.specs.Public.{is_private, is_public, is_loose, public_tree, foreign_tree, IsAlwaysPublic}
+use Rattle.kb_world.specs.Layout.{united, whole_tree, is_source_link, is_in_box, is_kernel_link, is_in_chest, is_in_rest, source_links, boxes, kernel_links, chests, rest, layout}
 use Rattle.kb_world.specs.declared.roots.Roots.{Roots}
 use Rattle.kb_world.specs.declared.tree.Node.{Node}
 use Rattle.kb_world.proofs.PublicLaws.{node_at-public_tree, node_at-foreign_tree}
@@ -79,11 +79,41 @@ either_part at true false false = or_none at
 either_part at false false loose = refl
 
 -- they have all that isn't private
-pub node_at-whole : (roots : Roots) (tree : Tree) (q : Path) → node_at (united (public_tree roots tree) (foreign_tree roots tree)) q ≡ cond (is_private roots q) None (node_at tree q)
+pub node_at-whole : (roots : Roots) (tree : Tree) (q : Path) → node_at (whole_tree roots tree) q ≡ cond (is_private roots q) None (node_at tree q)
 node_at-whole roots tree q =
     node_at-united (public_tree roots tree) (foreign_tree roots tree) q ∙ ap (λ o. option_or o (node_at (foreign_tree roots tree) q)) (node_at-public_tree roots tree q)
     ∙ ap (option_or (cond (is_public roots q (node_at tree q)) (node_at tree q) None)) (node_at-foreign_tree roots tree q)
     ∙ either_part (node_at tree q) (list_any (is_under q) (roots.dkms ∷ roots.src ∷ roots.modules ∷ roots.boot ∷ [])) (is_private roots q) (is_loose roots q (node_at tree q))
+
+-- at a path that isn't private they have what the tree has
+pub whole_at : (roots : Roots) (tree : Tree) (q : Path) → is_private roots q ≡ false → node_at (whole_tree roots tree) q ≡ node_at tree q
+whole_at roots tree q opens = node_at-whole roots tree q ∙ ap (λ hidden. cond hidden None (node_at tree q)) opens
+
+-- a path that is always public isn't private
+not_private : (roots : Roots) (q : Path) → IsAlwaysPublic roots q → is_private roots q ≡ false
+not_private roots q always = second_of_three (list_any (is_under q) (roots.dkms ∷ roots.src ∷ roots.modules ∷ roots.boot ∷ [])) (is_private roots q) (is_loose roots q None) (always None)
+  where
+    second_of_three : (within own loose : Bool) → (within && not own && not loose) ≡ true → own ≡ false
+    second_of_three within false loose e = refl
+    second_of_three true true loose e = cc
+    second_of_three false true loose e = cc
+
+-- and so at one that is always public
+pub whole_shown : (roots : Roots) (tree : Tree) (q : Path) → IsAlwaysPublic roots q → node_at (whole_tree roots tree) q ≡ node_at tree q
+whole_shown roots tree q always = whole_at roots tree q (not_private roots q always)
+
+-- their public tree is that of the tree
+pub public_whole : (roots : Roots) (tree : Tree) → public_tree roots (whole_tree roots tree) ≡ public_tree roots tree
+public_whole roots tree = same_tree _ _ (λ q.
+    node_at-public_tree roots (whole_tree roots tree) q ∙ ap (λ at. cond (is_public roots q at) at None) (node_at-whole roots tree q)
+    ∙ either_hidden (node_at tree q) (list_any (is_under q) (roots.dkms ∷ roots.src ∷ roots.modules ∷ roots.boot ∷ [])) (is_private roots q) (is_loose roots q)
+    ∙ sym (node_at-public_tree roots tree q))
+  where
+    either_hidden : (at : Option Node) (within own : Bool) (loose : Option Node → Bool)
+        → cond (within && not own && not (loose (cond own None at))) (cond own None at) None ≡ cond (within && not own && not (loose at)) at None
+    either_hidden at true true loose = refl
+    either_hidden at false true loose = refl
+    either_hidden at within false loose = refl
 
 unseen : (own any hidden index : Bool) → own ≡ false → hidden ≡ true → ((own || any && not hidden) && not index) ≡ false
 unseen own any hidden index a b = ap (λ o. (o || any && not hidden) && not index) a ∙ ap (λ h. (any && not h) && not index) b ∙ none any
@@ -94,14 +124,14 @@ unseen own any hidden index a b = ap (λ o. (o || any && not hidden) && not inde
 
 -- a request with no directory of its own sees nothing private, so it sees the same of both together
 pub view-whole : (roots : Roots) (request : Request) (tree : Tree) → ((q : Path) → is_own request.area q ≡ false)
-    → view_of roots request (united (public_tree roots tree) (foreign_tree roots tree)) ≡ view_of roots request tree
+    → view_of roots request (whole_tree roots tree) ≡ view_of roots request tree
 unfolding view_of
 view-whole roots request tree none = same_tree _ _ (λ q.
     node_at-retain whole (λ path. sees roots request path && not (is_dir (node_at whole path))) q ∙ at_path q (is_private roots q) refl
     ∙ sym (node_at-retain tree (λ path. sees roots request path && not (is_dir (node_at tree path))) q))
   where
     whole : Tree
-    whole = united (public_tree roots tree) (foreign_tree roots tree)
+    whole = whole_tree roots tree
 
     seen : Path → Option Node → Option Node
     seen q at = cond (sees roots request q && not (is_dir at)) at None

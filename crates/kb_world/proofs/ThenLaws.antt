@@ -1,18 +1,19 @@
 -- How actions go on from one another, and calls that do them.
-use Rattle.std.proofs.Common.{◌≡◌, ◌⊎◌, inl, inr, Bool, true, false, is_some, List, [], ◌∷◌, ◌++◌, Option, Some, None, refl, sym, ap, ◌∙◌, subst, append_assoc}
+use Rattle.std.proofs.Common.{◌≡◌, ◌⊎◌, inl, inr, true, false, is_some, List, [], ◌∷◌, ◌++◌, Option, Some, None, refl, sym, ap, ◌∙◌, subst, append_assoc}
 use Rattle.std.proofs.lemmas.List.{append-nil}
 use Rattle.std.specs.Prelude.{ℕ, ◌≤◌, map, IsErrOf, IsTrue, Result, Ok, Err}
+use Rattle.std.specs.Option.{ForSome}
 use Rattle.kb_world.specs.Path.{Path}
 use Rattle.kb_world.specs.Tree.{Tree}
 use Rattle.kb_world.specs.TreeLaws.{same_tree}
 use Rattle.kb_world.specs.Area.{IsLeft}
 use Rattle.kb_world.specs.Crash.{LeftOf, Adds}
 use Rattle.kb_world.specs.View.{is_own, view_of}
-use Rattle.kb_world.specs.State.{State, HasCause, Lasts, RanNone, IsReplied, Runs}
+use Rattle.kb_world.specs.State.{State, HasCause, Lasts, IsReplied, Runs}
 use Rattle.kb_world.specs.Public.{public_tree, foreign_tree}
 use Rattle.kb_world.specs.Outcome.{Outcome, Action, last_of, refuse_if, joined, go_on, warn, by_answer, reads, ran_child, asks, ◌then◌}
-use Rattle.kb_world.specs.Does.{CameAbout, Does, Gives, Asks, IsAsked, Answers, IsAnswer, IsTreeOf}
-use Rattle.kb_world.specs.Layout.{united}
+use Rattle.kb_world.specs.Does.{CameAbout, Does, Gives, Asks, IsAsked, Answers}
+use Rattle.kb_world.specs.Layout.{united, whole_tree}
 use Rattle.kb_world.specs.Script.{Script, answer, answer_in, after_edits, edit_of, tree_after}
 use Rattle.kb_world.specs.Stop.{stop_for}
 use Rattle.kb_world.specs.declared.child.Area.TheVariants as areas
@@ -113,7 +114,7 @@ stays_refused roots tree old mid refusal report told ran = record {
 
 -- the call that read was refused, or stopped
 pub does_unread : {A : Type 0} (roots : Roots) (read right : Tree → Result A Refusal) (next : A → Action) (old mid : State) (report : Report) (stop : Stop)
-    → ((tree : Tree) → read tree ≡ right (public_tree roots tree)) → Gives {T = A} read old mid (Err stop)
+    → ((tree : Tree) → read tree ≡ right (whole_tree roots tree)) → Gives {T = A} read old mid (Err stop)
     → Does roots (reads right next) {T = Unit {0}} old mid report report (Err stop)
 does_unread {A = A} roots read right next old mid report (Refused refusal) same g = record {
   answers = λ tree told rooted.
@@ -128,7 +129,7 @@ does_unread roots read right next old mid report NoMemory same g = record { answ
 
 -- it read a value, and it goes on with that
 pub does_read : {A : Type 0} (roots : Roots) (read right : Tree → Result A Refusal) (next : A → Action) (value : A) (old mid new : State) (before after : Report) (result : Result (Unit {0}) Stop)
-    → ((tree : Tree) → read tree ≡ right (public_tree roots tree)) → Gives {T = A} read old mid (Ok value) → Does roots (next value) mid new before after result
+    → ((tree : Tree) → read tree ≡ right (whole_tree roots tree)) → Gives {T = A} read old mid (Ok value) → Does roots (next value) mid new before after result
     → Does roots (reads right next) old new before after result
 does_read {A = A} roots read right next value old mid new before after result same g b = record {
   answers = λ tree told rooted.
@@ -140,6 +141,12 @@ does_read {A = A} roots read right next value old mid new before after result sa
   lasts = lasts_then old mid new g.unchanged.ran_none.lasts b.lasts;
   cause = cause_then Fault old mid new (Ok value) result g.unchanged.ran_none.lasts.told g.cause b.cause;
 }
+
+-- it goes on with the whole that stands
+pub does_whole : (roots : Roots) (next : Tree → Action) (old new : State) (before after : Report) (result : Result (Unit {0}) Stop)
+    → Lasts old new → HasCause Fault old new result → ForSome old.tree (λ tree. Does roots (next (whole_tree roots tree)) old new before after result)
+    → Does roots (reads Ok next) old new before after result
+does_whole roots next old new before after result lasts cause does = record { answers = λ tree told. (does tree told).answers tree told; lasts = lasts; cause = cause }
 
 -- ---- a text for standard error
 

@@ -1,4 +1,4 @@
--- The parts of a store, and its layout, which is their union. After the tool dkms, and this project's own.
+-- The union of trees. The parts of a store, and its layout, which is their union. After the tool dkms, and this project's own.
 use Rattle.std.specs.Prelude.{Bool, false, ◌||◌, not, ◌++◌, Option, Some, is_some}
 use Rattle.std.specs.FinMap.{entries, from_entries, retain_keys}
 use Rattle.kb_world.specs.Path.{Path}
@@ -6,6 +6,7 @@ use Rattle.kb_world.specs.StorePath.{store_path}
 use Rattle.kb_world.specs.Tree.{Tree, node_at, is_dir}
 use Rattle.kb_world.specs.Store.{added_at}
 use Rattle.kb_world.specs.Boxes.{boxed, installed, chest_path}
+use Rattle.kb_world.specs.Public.{public_tree, foreign_tree}
 use Rattle.kb_world.specs.declared.roots.Roots.{Roots}
 use Rattle.kb_world.specs.declared.store_path.StorePath.{StorePath}
 use Rattle.kb_world.specs.declared.store_path.StorePath.TheVariants.{Targets, InBox, KernelLink, InChest}
@@ -13,6 +14,10 @@ use Rattle.kb_world.specs.declared.store_path.StorePath.TheVariants.{Targets, In
 -- what stands in the first tree, and else in the second
 abbrev pub united : Tree → Tree → Tree
 united a b = from_entries (entries a ++ entries b)
+
+-- the public and the foreign tree together: all that isn't private
+abbrev pub whole_tree : Roots → Tree → Tree
+whole_tree roots tree = united (public_tree roots tree) (foreign_tree roots tree)
 
 -- ---- which part of a store a path belongs to
 

@@ -1,5 +1,5 @@
 -- What the command machine gives: a function of the store and the foreign tree. It makes no call, and knows no order
--- of calls. This project's own.
+-- of calls. Its conditions and readings are of their union, which is all that isn't private. This project's own.
 use Rattle.std.specs.Prelude.{ℕ, List, [], ◌∷◌, ◌++◌, Option, Some, None, Result, Ok, Err}
 use Rattle.std.specs.Option.{option_or}
 use Rattle.kb_world.specs.Tree.{Tree}
@@ -40,7 +40,7 @@ abbrev pub ◌or◌ : (Tree → Option Refusal) → (Tree → Option Refusal) �
 
 -- a refusal, where what stands gives one
 abbrev pub unless : (Tree → Option Refusal) → Action
-unless refusal store foreign = refuse_if (refusal store) store foreign
+unless refusal store foreign = refuse_if (refusal (united store foreign)) store foreign
 
 abbrev pub print : List ℕ → Action
 print text store foreign = record { after = []; requests = []; out = text; err = []; end = None; foreign = foreign }
@@ -80,9 +80,9 @@ abbrev pub by_answer : {T : Type 0} → (T → Action) → Result T Refusal → 
 by_answer next (Ok value) = next value
 by_answer next (Err why) = refuse_if (Some why)
 
--- what is read of the store says how it goes on
+-- what is read of what stands says how it goes on
 abbrev pub reads : {T : Type 0} → (Tree → Result T Refusal) → (T → Action) → Action
-reads right next store foreign = by_answer next (right store) store foreign
+reads right next store foreign = by_answer next (right (united store foreign)) store foreign
 
 -- the outcome of running a child that changes nothing
 abbrev pub ran_child : Request → Tree → Outcome

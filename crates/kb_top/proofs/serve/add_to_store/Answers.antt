@@ -1,5 +1,5 @@
 -- The store is read, and then the package is added to it.
-use Rattle.std.proofs.Common.{refl, sym, ◌∙◌, subst}
+use Rattle.std.proofs.Common.{sym, ◌∙◌, subst}
 use Rattle.kb_world.specs.Public.{public_tree}
 use Rattle.kb_world.specs.Script.{Script}
 use Rattle.kb_machine.specs.Across.{DoesAcrossCrashes}
@@ -8,13 +8,14 @@ use Rattle.kb_store.specs.Read.{read_of}
 use Rattle.kb_store.specs.declared.store.Store.{Store}
 use Rattle.kb_store.proofs.ReadLaws.{read_is_sound}
 use Rattle.kb_dkms.specs.Add.{add}
+use Rattle.kb_top.proofs.ServeLaws.{store_shown}
 use Rattle.kb_top.proofs.serve.add_to_store.Goals as goal
 
 pub returns-in-Err : goal.returns-in-Err
 returns-in-Err g c =
     let roots = c.args.job.now.host.roots in
     unread roots (λ tree. read_of roots (public_tree roots tree)) (read_of roots) (λ (read : Store). add c.args.job.now.host (g.W.World.state c.args.world.now).script c.args.key.now) _ _
-    c.args.report.now c.in-Err.stop (λ tree. refl) c.in-Err.ensures
+    c.args.report.now c.in-Err.stop (store_shown roots c.requires.apart) c.in-Err.ensures
 
 pub add-requires-clause-rooted : goal.add-requires-clause-rooted
 add-requires-clause-rooted g c now told = c.in-Ok.ensures.unchanged.ran_none.lasts.roots ∙ c.requires.rooted now (sym c.in-Ok.ensures.unchanged.tree ∙ told)
@@ -35,4 +36,4 @@ returns g c =
     let roots = c.args.job.now.host.roots in
     let P : Script → Type 0 = λ script. DoesAcrossCrashes roots (add c.args.job.now.host script c.args.key.now) (g.W.World.state c.read.new.world) (g.W.World.state c.add.new.world) c.args.report.now c.add.new.report c.add.result in
     read_on roots (λ tree. read_of roots (public_tree roots tree)) (read_of roots) (λ (read : Store). add c.args.job.now.host (g.W.World.state c.args.world.now).script c.args.key.now) c.in-Ok.store _ _ _
-    c.args.report.now _ c.add.result (λ tree. refl) c.in-Ok.ensures (subst P c.in-Ok.ensures.unchanged.ran_none.lasts.script c.add.ensures)
+    c.args.report.now _ c.add.result (store_shown roots c.requires.apart) c.in-Ok.ensures (subst P c.in-Ok.ensures.unchanged.ran_none.lasts.script c.add.ensures)
