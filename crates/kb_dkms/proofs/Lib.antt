@@ -5,4 +5,5 @@ mod CommitAdd
 mod DoesAdd
 mod PrepareLaws
 mod ScriptLaws
+mod TreeLaws
 mod WantLaws
