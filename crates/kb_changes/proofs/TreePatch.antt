@@ -1,5 +1,5 @@
--- The patch of `dkms add` of a directory: which paths it names.
-use Rattle.std.proofs.Common.{◌≡◌, ◌⊎◌, ℕ, Bool, true, false, cond, ◌||◌, not, List, [], ◌∷◌, ◌++◌, length, drop, map, Option, Some, None, is_some, refl, sym, ap, ◌∙◌, inl, inr}
+-- The patch of `dkms add` of a directory: which paths it names, and what is staged for it.
+use Rattle.std.proofs.Common.{◌≡◌, ◌⊎◌, ℕ, Bool, true, false, cond, ◌||◌, not, List, [], ◌∷◌, ◌++◌, length, drop, map, Option, Some, None, is_some, refl, sym, ap, ◌∙◌, inl, inr, append-nil}
 use Rattle.std.proofs.lemmas.List.{append_cancel_left, map-append}
 use Rattle.std.proofs.lemmas.Simd.{map-map}
 use Rattle.std.specs.Prelude.{filter, unwrap_or}
@@ -10,7 +10,7 @@ use Rattle.std.specs.Cmp.Derive.{both_true}
 use Rattle.std.specs.declared.cmp.Ordering.TheVariants.{Less}
 use Rattle.kb_world.specs.Path.{Path, path_cmp}
 use Rattle.kb_world.specs.Patch.{is_listed}
-use Rattle.kb_world.specs.Roots.{is_below}
+use Rattle.kb_world.specs.Roots.{AreApart, is_below}
 use Rattle.kb_world.specs.Steps.{source_copy, add_tree_patch}
 use Rattle.kb_world.specs.Store.{link_path, source_path, source_text}
 use Rattle.kb_world.specs.Tree.{Tree, node_at, is_dir, is_leaf}
@@ -19,13 +19,17 @@ use Rattle.kb_world.specs.declared.job.Key.{Key}
 use Rattle.kb_world.specs.declared.roots.Roots.{Roots}
 use Rattle.kb_world.specs.declared.tree.Node.{Node}
 use Rattle.kb_world.specs.declared.tree.Node.TheVariants as node
-use Rattle.kb_world.proofs.PathLaws.{drop-front, by_test}
-use Rattle.kb_world.proofs.AboveLaws.{all-filter, all-passing, AreAll, each-listed}
+use Rattle.kb_world.proofs.PathLaws.{under-append, under-above, drop-front, by_test}
+use Rattle.kb_world.proofs.AboveLaws.{all-filter, all-passing, all-map, all-all, AreAll, each-listed}
 use Rattle.kb_world.proofs.ListedLaws.{or_first, or_second, listed-append, neither}
 use Rattle.kb_world.proofs.OrderLaws.{IsRising, less-once}
+use Rattle.kb_changes.specs.Changes.{root_of, same_root, nodes_below, nodes_of}
 use Rattle.kb_changes.specs.Valid.{all_differ}
+use Rattle.kb_changes.specs.declared.change.RootName.{RootName}
+use Rattle.kb_changes.specs.declared.change.RootName.TheVariants as root_name
 use Rattle.kb_changes.proofs.PatchParents.{not_true, or_right, either, behind}
 use Rattle.kb_changes.proofs.PatchDone.{all_listed}
+use Rattle.kb_changes.proofs.PatchPuts.{root-under, below-append-nodes}
 
 untrue : false ≡ true → ⊥
 untrue e = cc
@@ -167,3 +171,51 @@ module _ (roots : Roots) (key : Key) (from : Path) where
         let a = copied p lp in
         let b = copied q lq in
         a.is ∙ ap (λ r. from ++ r) (append_cancel_left (source_path roots key) (a.name ∷ a.rest) (b.name ∷ b.rest) (sym a.copy ∙ same ∙ b.copy)) ∙ sym b.is
+
+-- ---- what is staged for it
+
+-- the nodes of puts that are all below one root
+nodes_of_one : (roots : Roots) (base own : RootName) (puts : List (Path × Node)) → AllByRecursion (λ (put : Path × Node). root_of roots put.0 ≡ own) puts
+    → nodes_below roots base puts ≡ cond (same_root own base) (map (λ (put : Path × Node). put.1) puts) []
+nodes_of_one roots base own [] same = by (same_root own base)
+  where
+    by : (b : Bool) → let none : List Node = [] in none ≡ cond b none none
+    by true = refl
+    by false = refl
+nodes_of_one roots base own (put ∷ puts) same =
+    ap (λ root. map (λ (p : Path × Node). p.1) (cond (same_root root base) (put ∷ below) below)) same.0 ∙ by (same_root own base) (nodes_of_one roots base own puts same.1)
+  where
+    below : List (Path × Node)
+    below = filter (λ (p : Path × Node). same_root (root_of roots p.0) base) puts
+
+    by : (b : Bool) → map (λ (p : Path × Node). p.1) below ≡ cond b (map (λ (p : Path × Node). p.1) puts) [] → map (λ (p : Path × Node). p.1) (cond b (put ∷ below) below) ≡ cond b (put.1 ∷ map (λ (p : Path × Node). p.1) puts) []
+    by true later = ap (λ nodes. put.1 ∷ nodes) later
+    by false later = later
+
+module _ (roots : Roots) (apart : AreApart roots) (key : Key) (from : Path) (whole : Tree) where
+  -- below the root of sources the files and links in their order, and below the dkms root the link
+  pub nodes_are : nodes_of roots (add_tree_patch roots key from whole) ≡ record {
+    dkms = node.Link (source_text roots key) ∷ [];
+    src = map (λ path. unwrap_or (node_at whole path) node.Dir) (copied_leaves from whole);
+    «modules» = [];
+    boot = [];
+  }
+  nodes_are = (λ i. record {
+    dkms = below root_name.Dkms i;
+    src = (below root_name.Src ∙ append-nil (map (λ (put : Path × Node). put.1) copies) ∙ map-map (λ (put : Path × Node). put.1) (copy_at roots key from whole) (copied_leaves from whole)) i;
+    «modules» = below root_name.Modules i;
+    boot = below root_name.Boot i;
+  })
+    where
+      copies : List (Path × Node)
+      copies = map (copy_at roots key from whole) (copied_leaves from whole)
+
+      in_src : AllByRecursion (λ (put : Path × Node). root_of roots put.0 ≡ root_name.Src) copies
+      in_src = all-map (λ (put : Path × Node). root_of roots put.0 ≡ root_name.Src) (copy_at roots key from whole) (copied_leaves from whole)
+          (all-all (λ path. root_of roots (copy_path roots key from path) ≡ root_name.Src) (λ path. root-under roots apart root_name.Src (copy_path roots key from path) (under-above (copy_path roots key from path) roots.src _ (under-append (source_path roots key) (drop (length from) path)))) (copied_leaves from whole))
+
+      below : (base : RootName) → nodes_below roots base (add_tree_patch roots key from whole).puts
+          ≡ cond (same_root root_name.Src base) (map (λ (put : Path × Node). put.1) copies) [] ++ cond (same_root root_name.Dkms base) (node.Link (source_text roots key) ∷ []) []
+      below base =
+          ap (nodes_below roots base) (puts_are roots key from whole) ∙ below-append-nodes roots base copies (link_put roots key ∷ [])
+          ∙ (λ i. nodes_of_one roots base root_name.Src copies in_src i ++ nodes_of_one roots base root_name.Dkms (link_put roots key ∷ []) (root-under roots apart root_name.Dkms (link_path roots key) (under-append roots.dkms _), tt) i)

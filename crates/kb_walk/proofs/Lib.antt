@@ -3,6 +3,7 @@ pub mod MemberLaws
 pub mod OrderLaws
 pub mod VisitLaws
 pub mod WalkLaws
+pub mod WholeLaws
 pub mod WipeCalls
 pub mod WipeLaws
 pub mod WipeLoop

@@ -1,18 +1,20 @@
 -- How a walk ends: everything was met, or what stands before the first path that passes a limit.
-use Rattle.std.proofs.Common.{◌≡◌, ◌⊎◌, inl, inr, ℕ, zero, suc, ◌+◌, ◌<◌, ◌≤◌, Bool, true, false, cond, ◌&&◌, ◌||◌, List, [], ◌∷◌, ◌++◌, length, map, Option, Some, None, refl, sym, ap, ◌∙◌, subst, append_assoc, append-nil, arith}
+use Rattle.std.proofs.Common.{◌≡◌, ◌⊎◌, inl, inr, ℕ, zero, suc, ◌+◌, ◌<◌, ◌≤◌, Bool, true, false, cond, ◌&&◌, ◌||◌, not, List, [], ◌∷◌, ◌++◌, length, map, Option, Some, None, refl, sym, ap, ◌∙◌, subst, append_assoc, append-nil, arith, length-append}
 use Rattle.std.specs.Prelude.{nat_le, nat_lt, slice_get, IfSome}
-use Rattle.std.specs.List.{find, list_all}
+use Rattle.std.specs.List.{find, list_all, AllByRecursion}
 use Rattle.std.specs.Ordering.{is_lt}
 use Rattle.std.specs.Cmp.{first_so, second_so}
 use Rattle.std.specs.Cmp.Derive.{both_true}
-use Rattle.std.proofs.lemmas.Bool.{leb-true}
+use Rattle.std.proofs.lemmas.Bool.{leb-true, leb-false}
 use Rattle.kb_world.specs.Path.{Path, path_cmp}
 use Rattle.kb_world.specs.Tree.{Tree, node_at, is_dir}
-use Rattle.kb_walk.specs.Walking.{entries, met_at, passes_limit, walk_on, walked}
+use Rattle.kb_world.proofs.AboveLaws.{all-map, all-passing}
+use Rattle.kb_world.proofs.ListedLaws.{or_first}
+use Rattle.kb_walk.specs.Walking.{paths_below, entries, met_at, passes_limit, walk_on, walked}
 use Rattle.kb_walk.specs.declared.walking.Limits.{Limits}
 use Rattle.kb_walk.specs.declared.walking.Met.{Met}
 use Rattle.kb_walk.specs.declared.walking.Walk.{Walk}
-use Rattle.kb_walk.proofs.OrderLaws.{untrue, rises}
+use Rattle.kb_walk.proofs.OrderLaws.{untrue, not_true, rises}
 use Rattle.kb_walk.proofs.VisitLaws.{walk_over}
 use Rattle.kb_walk.proofs.MemberLaws.{entries_rise}
 
@@ -81,6 +83,37 @@ met_all limits tree skips start none = elim (walk_ends tree limits.entries (leng
   where
     differ : {far : Path} → None ≡ Some far → ⊥
     differ e = cc
+
+-- what it met isn't skipped
+pub met_unskipped : (limits : Limits) (tree : Tree) (skips : Path → Bool) (start : Path) → (walked limits tree skips start).over ≡ None
+    → AllByRecursion (λ (met : Met). skips met.path ≡ false) (walked limits tree skips start).met
+met_unskipped limits tree skips start none =
+    subst (AllByRecursion (λ (met : Met). skips met.path ≡ false)) (sym (met_all limits tree skips start none))
+    (all-map (λ (met : Met). skips met.path ≡ false) (met_at tree) (entries tree skips start)
+    (all-passing (λ path. skips path ≡ false) (λ path. not (skips path)) (λ path e. not_true (skips path) e) (paths_below tree start)))
+
+-- nor is it more than may be met
+few_more : (tree : Tree) (most deepest : ℕ) (first : List Met) (paths : List Path) → (walk_on tree most deepest (record { met = first; over = None }) paths).over ≡ None → length first ≤ most → length first + length paths ≤ most
+few_more tree most deepest first [] e short = omega arith
+few_more tree most deepest first (path ∷ paths) e short = by (passes_limit tree most deepest first path) refl e (λ open_end shorter. few_more tree most deepest (first ++ met_at tree path ∷ []) paths open_end shorter)
+  where
+    none_over : Some path ≡ None → ⊥
+    none_over is = cc
+
+    by : (b : Bool) → passes_limit tree most deepest first path ≡ b → (gone tree most deepest first path paths b).over ≡ None
+        → ((gone tree most deepest first path paths false).over ≡ None → length (first ++ met_at tree path ∷ []) ≤ most → length (first ++ met_at tree path ∷ []) + length paths ≤ most)
+        → length first + length (path ∷ paths) ≤ most
+    by true p ended more = absurd (none_over (sym (ap (λ (w : Walk). w.over) (walk_over tree most deepest (record { met = first; over = Some path }) paths refl)) ∙ ended))
+    by false p open_end more =
+        let shorter : length first < most = leb-false most (length first) (or_first (nat_le most (length first)) _ p) in
+        let long = length-append first (met_at tree path ∷ []) in
+        let later = more open_end (omega (arith, shorter, long)) in
+        omega (arith, later, long)
+
+pub few_entries : (limits : Limits) (tree : Tree) (skips : Path → Bool) (start : Path) → (walked limits tree skips start).over ≡ None → length (entries tree skips start) ≤ limits.entries
+unfolding walked
+few_entries limits tree skips start none =
+    let all = few_more tree limits.entries (length start + limits.depth) [] (entries tree skips start) none (omega arith) in omega (arith, all)
 
 -- a front of the entries was met, and the entry behind it passes a limit
 pub record IsFront (limits : Limits) (tree : Tree) (skips : Path → Bool) (start far : Path) : Type 0 where

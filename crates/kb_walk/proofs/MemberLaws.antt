@@ -124,6 +124,14 @@ same_members (x ∷ xs) (y ∷ ys) up vp same =
 pub in_entries : (tree : Tree) (skips : Path → Bool) (d path : Path) → list_any (same_path path) (entries tree skips d) ≡ (not (skips path) && (is_below path d && list_any (same_path path) (keys tree)))
 in_entries tree skips d path = in_filter (λ q. not (skips q)) (paths_below tree d) path ∙ ap (λ b. not (skips path) && b) (in_filter (λ q. is_below q d) (keys tree) path)
 
+-- where nothing is skipped, they are all that is below it
+pub skips_none : (tree : Tree) (d : Path) → entries tree (λ path. false) d ≡ paths_below tree d
+skips_none tree d = all_pass (paths_below tree d)
+  where
+    all_pass : (paths : List Path) → filter (λ path. true) paths ≡ paths
+    all_pass [] = refl
+    all_pass (x ∷ paths) = ap (λ l. x ∷ l) (all_pass paths)
+
 -- entries rise
 pub entries_rise : (tree : Tree) (skips : Path → Bool) (d : Path) → rises (entries tree skips d) ≡ true
 entries_rise tree skips d = rises_filter (λ q. not (skips q)) (paths_below tree d) (rises_filter (λ q. is_below q d) (keys tree) (rises_keys tree))

@@ -10,13 +10,13 @@ use Rattle.std.specs.FinMap.{keys}
 use Rattle.kb_world.specs.Roots.{is_below}
 use Rattle.kb_world.proofs.DamageLaws.{under-split}
 use Rattle.kb_world.specs.Path.{Path, child, is_under}
-use Rattle.kb_world.specs.Tree.{Tree, node_at, is_dir, kind_of, children, IsFormed}
+use Rattle.kb_world.specs.Tree.{Tree, node_at, is_dir, is_leaf, kind_of, children, IsFormed}
 use Rattle.kb_world.specs.State.{State}
 use Rattle.kb_world.specs.declared.tree.Kind.{Kind}
 use Rattle.kb_world.specs.declared.tree.Kind.TheVariants as kind
 use Rattle.kb_world.specs.declared.tree.Node.{Node}
 use Rattle.kb_world.specs.declared.tree.Node.TheVariants as node
-use Rattle.kb_walk.specs.Walking.{paths_below, entries, entry_block, passes_limit, meets, walk_on, is_dir_kind}
+use Rattle.kb_walk.specs.Walking.{paths_below, entries, entry_block, passes_limit, meets, walk_on, is_dir_kind, is_leaf_kind}
 use Rattle.kb_walk.specs.declared.walking.Met.{Met}
 use Rattle.kb_walk.specs.declared.walking.Walk.{Walk}
 use Rattle.kb_world.proofs.LookLaws.{Quiet}
@@ -46,6 +46,12 @@ dir_of None = refl
 dir_of (Some node.Dir) = refl
 dir_of (Some (node.File bytes exec)) = refl
 dir_of (Some (node.Link text)) = refl
+
+pub leaf_of : (at : Option Node) → is_leaf_kind (kind_of at) ≡ is_leaf at
+leaf_of None = refl
+leaf_of (Some node.Dir) = refl
+leaf_of (Some (node.File bytes exec)) = refl
+leaf_of (Some (node.Link text)) = refl
 
 -- an entry is too deep where no deeper directory is allowed
 too_deep : (d : Path) (name : List ℕ) (depth : ℕ) → nat_lt (length d + depth) (length (child d name)) ≡ nat_eq depth 0

@@ -1,6 +1,6 @@
 -- What the calls that take a path away do, put together.
-use Rattle.std.proofs.Common.{◌≡◌, ◌⊎◌, ℕ, true, false, List, [], ◌∷◌, Option, Some, None, Result, Ok, Err, map, drop, refl, sym, ap, ◌∙◌, subst, inl, inr}
-use Rattle.std.specs.Prelude.{option_map, filter, IsErrOf, IsTrue, OnOk}
+use Rattle.std.proofs.Common.{◌≡◌, ◌⊎◌, ℕ, true, false, List, Option, Some, None, Result, Ok, Err, map, drop, refl, sym, ap, ◌∙◌, subst, inl, inr}
+use Rattle.std.specs.Prelude.{option_map, IsErrOf, IsTrue, OnOk}
 use Rattle.std.specs.Option.{ForSome}
 use Rattle.kb_world.specs.Path.{Path}
 use Rattle.kb_world.specs.Tree.{Tree, node_at, without, kind_of, is_dir, is_leaf, IsFormed, IsEmptyDir}
@@ -19,6 +19,7 @@ use Rattle.kb_world.proofs.DoesLaws.{cause_then, ran_none_then}
 use Rattle.kb_walk.specs.Walking.{entries, paths_below, met_at}
 use Rattle.kb_walk.specs.declared.walking.Met.{Met}
 use Rattle.kb_walk.specs.Wipe.{IsWipedInPart, LeftOfWipe, TakesAway, Wipes, without_all, without_tree, emptied}
+use Rattle.kb_walk.proofs.MemberLaws.{skips_none}
 use Rattle.kb_walk.proofs.WipeLaws.{part_wiped, all_emptied, emptied_then_gone, bare_gone, nothing_gone, unwiped, whole_wiped, emptied_dir}
 use Rattle.kb_walk.proofs.WipeLoop.{HasWiped, HasStopped, LeftWiped, path_of, paths_of_met, told_from, absent_stands}
 
@@ -265,8 +266,4 @@ dir_left path old mid new looked t there tree told =
 -- a walk that skips nothing meets all that is below
 pub all_met : (old mid : State) (path : Path) (met : List Met) → Unchanged old mid → ForSome old.tree (λ tree. met ≡ map (met_at tree) (entries tree (λ q. false) path))
     → ForSome mid.tree (λ tree. met ≡ map (met_at tree) (paths_below tree path))
-all_met old mid path met same is tree told = is tree (sym same.tree ∙ told) ∙ ap (map (met_at tree)) (none_skipped (paths_below tree path))
-  where
-    none_skipped : (paths : List Path) → filter (λ q. true) paths ≡ paths
-    none_skipped [] = refl
-    none_skipped (x ∷ paths) = ap (λ l. x ∷ l) (none_skipped paths)
+all_met old mid path met same is tree told = is tree (sym same.tree ∙ told) ∙ ap (map (met_at tree)) (skips_none tree path)

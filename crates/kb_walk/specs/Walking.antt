@@ -66,3 +66,10 @@ is_dir_kind kind.Dir = true
 is_dir_kind kind.Absent = false
 is_dir_kind (kind.File len exec) = false
 is_dir_kind kind.Link = false
+
+-- a file or a link
+abbrev pub is_leaf_kind : Kind → Bool
+is_leaf_kind kind.Dir = false
+is_leaf_kind kind.Absent = false
+is_leaf_kind (kind.File len exec) = true
+is_leaf_kind kind.Link = true
