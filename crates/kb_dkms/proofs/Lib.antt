@@ -5,6 +5,7 @@ mod CommitAdd
 mod DoesAdd
 mod PrepareLaws
 mod ScriptLaws
+pub mod StageLaws
 mod TreeLaws
 mod WantLaws
 pub mod CopyLaws

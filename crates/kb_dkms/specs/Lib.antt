@@ -4,3 +4,4 @@ pub mod Commit
 pub mod Host
 pub mod Places
 pub mod Scripts
+pub mod Staged

@@ -6,5 +6,6 @@ mod copying;
 mod places;
 mod preparing;
 mod scripts;
+mod staging;
 
 pub use adding::add;
