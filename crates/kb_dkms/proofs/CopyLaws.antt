@@ -1,29 +1,42 @@
 -- What refuses the copy of a directory is asked of the tree, and found in the whole that stands.
-use Rattle.std.proofs.Common.{◌≡◌, ℕ, true, cond, List, Option, Some, None, is_some, refl, sym, ap, ◌∙◌}
+use Rattle.std.proofs.Common.{◌≡◌, ℕ, true, false, cond, List, Option, Some, None, is_some, refl, sym, ap, ◌∙◌}
 use Rattle.std.specs.Prelude.{Result, Ok, Err}
-use Rattle.std.specs.Option.{ForSome}
+use Rattle.std.specs.Option.{ForSome, option_map}
 use Rattle.kb_world.specs.Damage.{hurt}
 use Rattle.kb_world.specs.Does.{Decides}
 use Rattle.kb_world.specs.Layout.{whole_tree}
 use Rattle.kb_world.specs.Outcome.{◌or◌}
-use Rattle.kb_world.specs.Public.{public_tree}
+use Rattle.kb_world.specs.Path.{Path}
+use Rattle.kb_world.specs.Public.{is_private, public_tree}
 use Rattle.kb_world.specs.Roots.{AreApart}
-use Rattle.kb_world.specs.State.{State}
+use Rattle.kb_world.specs.State.{State, Looks}
 use Rattle.kb_world.specs.Store.{is_key, link_path, source_path}
 use Rattle.kb_world.specs.Tree.{Tree, node_at}
 use Rattle.kb_world.specs.declared.job.Key.{Key}
 use Rattle.kb_world.specs.declared.refusal.Refusal.{Refusal}
 use Rattle.kb_world.specs.declared.refusal.Refusal.TheVariants as refusal
 use Rattle.kb_world.specs.declared.roots.Roots.{Roots}
+use Rattle.kb_world.specs.declared.sequence.Sequence.{Sequence}
 use Rattle.kb_world.specs.declared.stop.Stop.{Stop}
+use Rattle.kb_world.specs.declared.stop.Stop.TheVariants.{Refused, Fault}
 use Rattle.kb_world.specs.declared.tree.Node.{Node}
+use Rattle.kb_world.specs.declared.world.WorldError.{WorldError}
+use Rattle.kb_world.proofs.DoesLaws.{cause_other}
 use Rattle.kb_world.proofs.LayoutLaws.{whole_shown}
+use Rattle.kb_walk.specs.Walking.{LIMITS, walked}
+use Rattle.kb_walk.specs.declared.walking.Met.{Met}
+use Rattle.kb_walk.specs.declared.walking.Walk.{Walk}
+use Rattle.kb_walk.proofs.WholeLaws.{walked_whole}
+use Rattle.kb_intent.proofs.StopLaws.{done_cause}
 use Rattle.kb_dkms.specs.Add.{already_added, blocked}
-use Rattle.kb_dkms.specs.AddTree.{source_there, package_there, too_much, no_copy}
+use Rattle.kb_dkms.specs.AddTree.{source_there, package_there, met_below, too_many, too_much, no_copy}
 use Rattle.kb_dkms.specs.Places.{package_places, standing, place_blocked}
 use Rattle.kb_dkms.specs.declared.places.Places.{Places}
 use Rattle.kb_dkms.proofs.AddLaws.{are_public, standing_shown, blocked_shown}
 use Rattle.kb_dkms.proofs.DecideLaws.{decided_first, decided_then, decided_as, stops}
+
+abbrev right : {T : Type 0} → T → Result T WorldError
+right value = Ok value
 
 module _ (roots : Roots) (apart : AreApart roots) (key : Key) (good : is_key key ≡ true) (places : Places) (are : places ≡ package_places roots key) where
   module _ (old new : State) where
@@ -65,3 +78,27 @@ module _ (roots : Roots) (apart : AreApart roots) (key : Key) (good : is_key key
       let much : Tree → Option Refusal = λ tree. too_much from (whole_tree roots tree) in
       decided_then (λ tree. (package_there roots key or too_much from) (whole_tree roots tree)) (λ tree. blocked roots key (whole_tree roots tree)) old next new met result
       (decided_then there much old mid next value (Ok met) d e) (blocked_as next new result f)
+
+-- ---- what stands below the directory
+
+module _ (roots : Roots) (from : Path) (old new : State) (walk : Walk) (looked : Looks old new (right walk)) (walks : ForSome old.tree (λ tree. walk ≡ walked LIMITS tree (is_private roots) from)) where
+  -- the walk that skips what is private is one of the whole that stands
+  walks_whole : ForSome old.tree (λ tree. walk ≡ walked LIMITS (whole_tree roots tree) (λ path. false) from)
+  walks_whole tree told = walks tree told ∙ walked_whole roots LIMITS tree from
+
+  ended_as : (over : Option Path) → walk.over ≡ over → ForSome old.tree (λ tree. too_many from (whole_tree roots tree) ≡ option_map refusal.TooMany over)
+  ended_as over is tree told = ap (λ (w : Walk). option_map refusal.TooMany w.over) (sym (walks_whole tree told)) ∙ ap (option_map refusal.TooMany) is
+
+  pub walk_met : ForSome old.tree (λ tree. walk.met ≡ met_below from (whole_tree roots tree))
+  walk_met tree told = ap (λ (w : Walk). w.met) (walks_whole tree told)
+
+  pub walk_ended : walk.over ≡ None → Decides (λ tree. too_many from (whole_tree roots tree)) {T = Sequence Met} old new (Ok walk.met)
+  walk_ended is = record { agrees = ended_as None is; unchanged = looked.unchanged; cause = done_cause old new walk walk.met looked.cause }
+
+  pub walk_over : (path : Path) → walk.over ≡ Some path → Decides (λ tree. too_many from (whole_tree roots tree)) {T = Sequence Met} old new (stops (Refused (refusal.TooMany path)))
+  walk_over path is = record {
+    agrees = ended_as (Some path) is;
+    unchanged = looked.unchanged;
+    cause = cause_other old new (Ok walk) (stops {T = Sequence Met} (Refused (refusal.TooMany path))) (done_cause old new walk walk looked.cause)
+        (λ failed. let impossible : stops {T = Sequence Met} (Refused (refusal.TooMany path)) ≡ Err Fault = failed in cc);
+  }
