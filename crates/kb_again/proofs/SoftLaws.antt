@@ -72,7 +72,7 @@ some_run q (c ∷ cs) h = elim (or_cases _ _ h) [
 ]
 
 -- a root that is written is open
-root_open : (r : Roots) → AreRoots r → (x : Path) → is_listed x (all_roots r) ≡ true → is_open r x ≡ true
+pub root_open : (r : Roots) → AreRoots r → (x : Path) → is_listed x (all_roots r) ≡ true → is_open r x ≡ true
 root_open r roots x is = open_from r x (λ priv. elim (or_cases _ _ priv) [
   | inl head ↦
       let w = inside_some (private_places r) x head in

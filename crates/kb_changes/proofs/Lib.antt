@@ -3,7 +3,7 @@ pub mod NumberLaws
 pub mod PatchDone
 pub mod PathsLaws
 mod PatchForeign
-mod PatchGroups
+pub mod PatchGroups
 pub mod PatchMet
 mod PatchOwn
 pub mod PatchParents

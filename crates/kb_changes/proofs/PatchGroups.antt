@@ -1,14 +1,15 @@
 -- The groups of the changes of a patch.
-use Rattle.std.proofs.Common.{◌≡◌, ◌⊎◌, ℕ, true, List, [], ◌∷◌, ◌++◌, map, filter_map, Option, Some, None, refl, ap, ◌∙◌, inl, inr}
+use Rattle.std.proofs.Common.{◌≡◌, ◌⊎◌, ℕ, true, List, [], ◌∷◌, ◌++◌, map, filter_map, Option, Some, None, refl, sym, ap, ◌∙◌, inl, inr}
 use Rattle.std.proofs.lemmas.List.{append-nil}
 use Rattle.std.proofs.lemmas.List.Elements.{filter_map-append}
 use Rattle.std.specs.Prelude.{◌&&◌, nat_le}
 use Rattle.std.specs.List.{cons_option}
+use Rattle.kb_world.specs.Patch.{Patch, dirs_of, emptied_of}
 use Rattle.kb_world.specs.Path.{Path}
 use Rattle.kb_world.specs.declared.child.Request.{Request}
 use Rattle.kb_world.specs.declared.roots.Roots.{Roots}
 use Rattle.kb_world.specs.declared.tree.Node.{Node}
-use Rattle.kb_changes.specs.Changes.{numbered_puts}
+use Rattle.kb_changes.specs.Changes.{changes_of, drops_of, numbered_puts, scratches}
 use Rattle.kb_changes.specs.Groups.{drop_of, wipe_of, drop_dir_of, dir_of, target_of, staged_of, run_of, drops_in, wipes_in, drop_dirs_in, first_drop_dirs, second_drop_dirs, dirs_in, targets_in, staged_in, runs_in}
 use Rattle.kb_changes.specs.Valid.{are_in_order}
 use Rattle.kb_changes.specs.declared.change.Change.{Change}
@@ -230,3 +231,13 @@ module _ (requests : List Request) where
       pub groups_in_order : (drops wipes dirs : List Path) → are_in_order 0 (grouped roots drops wipes dirs puts emptied requests) ≡ true
       groups_in_order [] wipes dirs = wipes_none dirs wipes
       groups_in_order (d ∷ drops) wipes dirs = groups_in_order drops wipes dirs
+
+-- a patch has no child among its changes
+pub no_runs : (roots : Roots) (patch : Patch) → runs_in (changes_of roots patch) ≡ []
+unfolding changes_of
+no_runs roots patch =
+    ap runs_in (sym (append-nil (map Drop (drops_of patch) ++ (map Wipe wiped ++ (map Dir (dirs_of roots patch) ++ (numbered_puts roots [] patch.puts ++ map DropDir (emptied_of roots patch)))))))
+    ∙ runs_are roots (drops_of patch) wiped (dirs_of roots patch) patch.puts (emptied_of roots patch) []
+  where
+    wiped : List Path
+    wiped = patch.wipes ++ scratches roots (emptied_of roots patch)

@@ -1,7 +1,6 @@
-mod AddChanges
 mod AddLaws
 mod AddRun
-mod CommitAdd
+mod CommitPatch
 mod DoesAdd
 mod PrepareLaws
 mod ScriptLaws

@@ -1,51 +1,39 @@
 -- The transaction of an add is put together aside from all that counts.
-use Rattle.std.proofs.Common.{◌≡◌, ℕ, Bool, true, false, ◌&&◌, not, List, [], ◌∷◌, ◌++◌, Option, Some, None, is_some, refl, sym, ap, ◌∙◌, subst}
-use Rattle.std.proofs.lemmas.List.{append-nil}
+use Rattle.std.proofs.Common.{◌≡◌, ℕ, true, false, cond, List, [], ◌∷◌, ◌++◌, map, Option, Some, None, is_some, refl, sym, ap, ◌∙◌, subst}
 use Rattle.std.specs.Prelude.{Result, Ok, Err, codes, IsErrOf}
 use Rattle.std.specs.Option.{ForSome}
-use Rattle.kb_world.specs.Path.{Path}
-use Rattle.kb_world.specs.Public.{intent_path, is_private}
+use Rattle.kb_world.specs.Patch.{Patch}
+use Rattle.kb_world.specs.Path.{Path, is_under}
 use Rattle.kb_world.specs.Roots.{AreApart}
 use Rattle.kb_world.specs.State.{State}
+use Rattle.kb_world.specs.Steps.{add_patch}
+use Rattle.kb_world.specs.Store.{link_path, source_text}
 use Rattle.kb_world.specs.Tree.{Tree, node_at, is_dir}
 use Rattle.kb_world.specs.declared.child.Request.{Request}
 use Rattle.kb_world.specs.declared.job.Job.{Job}
+use Rattle.kb_world.specs.declared.job.Key.{Key}
 use Rattle.kb_world.specs.declared.roots.Roots.{Roots}
 use Rattle.kb_world.specs.declared.stop.Stop.{Stop}
 use Rattle.kb_world.specs.declared.stop.Stop.TheVariants.{Refused, Fault, NoMemory}
+use Rattle.kb_world.specs.declared.tree.Node.{Node}
 use Rattle.kb_world.specs.declared.tree.Node.TheVariants as node
 use Rattle.kb_world.proofs.DoesLaws.{cause_then, cause_other, ran_none_then}
-use Rattle.kb_world.proofs.PathLaws.{under-self, under-beside}
-use Rattle.kb_world.proofs.PublicLaws.{IsAlwaysPublic, in_dkms}
-use Rattle.kb_changes.specs.Change.{staged_path}
+use Rattle.kb_world.proofs.PathLaws.{under-append, under-self, under-beside}
+use Rattle.kb_changes.specs.Changes.{Staged, nodes_of, root_of, same_root, HasStaged}
+use Rattle.kb_changes.specs.PatchPaths.{ArePathsOf}
 use Rattle.kb_changes.specs.Valid.{new_intent_path}
+use Rattle.kb_changes.specs.declared.change.RootName.{RootName}
 use Rattle.kb_changes.specs.declared.change.RootName.TheVariants as root_name
+use Rattle.kb_changes.specs.declared.patch_paths.PatchPaths.{PatchPaths}
+use Rattle.kb_again.proofs.RootLaws.{at_0}
 use Rattle.kb_machine.specs.Aside.{is_aside, IsSameBut, WorksAside}
 use Rattle.kb_machine.proofs.AsideThenLaws.{aside_then}
-use Rattle.kb_intent.specs.Txn.{StaysAside, BeginsTransaction, Stages, IsStagedFor, AreStagedFor, none_staged}
+use Rattle.kb_machine.proofs.FitLaws.{root_aside}
+use Rattle.kb_intent.specs.Txn.{StaysAside, BeginsTransaction, Stages, IsStagedFor, AreStagedFor, none_staged, with_staged}
 use Rattle.kb_intent.specs.declared.txn.Txn.{Txn}
-use Rattle.kb_dkms.specs.Commit.{changes_of_add, HasLinkStaged, Prepares}
+use Rattle.kb_dkms.specs.Commit.{changes_with, Prepares}
+use Rattle.kb_dkms.specs.Places.{package_places}
 use Rattle.kb_dkms.specs.declared.places.Places.{Places}
-
--- ---- what is public isn't aside
-
-pub open_aside : (roots : Roots) (path : Path) → IsAlwaysPublic roots path → is_aside roots path ≡ false
-open_aside roots path opens = by _ (is_private roots path) _ _ (opens None)
-  where
-    by : (a b c d : Bool) → (a && not b && not c) ≡ true → (b && d) ≡ false
-    by true true c d h = let impossible : false ≡ true = h in cc
-    by true false c d h = refl
-    by false b c d h = let impossible : false ≡ true = h in cc
-
-pub dkms_open : (roots : Roots) → AreApart roots → IsAlwaysPublic roots roots.dkms
-dkms_open roots apart = subst (IsAlwaysPublic roots) (append-nil roots.dkms) (in_dkms roots apart [] refl refl)
-
-pub intent_kept : (roots : Roots) → is_aside roots (intent_path roots) ≡ false
-intent_kept roots = ap (λ t. is_private roots (intent_path roots) && not t) (under-self (intent_path roots)) ∙ never (is_private roots (intent_path roots))
-  where
-    never : (x : Bool) → (x && false) ≡ false
-    never true = refl
-    never false = refl
 
 -- ---- the tree behind work aside, and the one before
 
@@ -104,12 +92,41 @@ stays_stop {A = A} {B = B} roots old new stop a = record {
     back : (why : Stop) → stopped {A = B} stop ≡ stopped why → stopped {A = A} stop ≡ stopped why
     back why failed = let is : stop ≡ why = cc in ap (λ s. stopped {A = A} s) is
 
+-- ---- the link of a package is staged
+
 -- the text that is staged is the link's
 pub with_text : (text said : List ℕ) (before after : Txn) (old new : State) (result : Result ℕ Stop) → said ≡ text
     → Stages root_name.Dkms (node.Link said) before after old new result → Stages root_name.Dkms (node.Link text) before after old new result
 with_text text said before after old new result is s = subst (λ t. Stages root_name.Dkms (node.Link t) before after old new result) is s
 
-module _ (job : Job) (places : Places) (request : Option Request) (old mid : State) (begun : Txn) (b : BeginsTransaction job old mid (Ok begun)) where
+-- that is all that the patch puts
+link_alone : (roots : Roots) (key : Key) → with_staged root_name.Dkms (node.Link (source_text roots key)) none_staged ≡ nodes_of roots (add_patch roots key)
+link_alone roots key = sym (ap staged_in in_dkms)
+  where
+    link : Path × Node
+    link = (link_path roots key, node.Link (source_text roots key))
+
+    in_dkms : root_of roots (link_path roots key) ≡ root_name.Dkms
+    in_dkms = ap (λ b. cond b root_name.Dkms (cond (is_under (link_path roots key) roots.src) root_name.Src (cond (is_under (link_path roots key) roots.modules) root_name.Modules root_name.Boot)))
+        (under-append roots.dkms (key.module ∷ key.version ∷ codes "source" ∷ []))
+
+    nodes : RootName → RootName → List Node
+    nodes put root = map (λ (p : Path × Node). p.1) (cond (same_root put root) (link ∷ []) [])
+
+    staged_in : RootName → Staged
+    staged_in put = record { dkms = nodes put root_name.Dkms; src = nodes put root_name.Src; «modules» = nodes put root_name.Modules; boot = nodes put root_name.Boot }
+
+-- the paths of the patch are those that the code has
+pub link_paths_are : (roots : Roots) (key : Key) (paths : PatchPaths) (places : Places) → places ≡ package_places roots key → paths ≡ record { drops = []; wipes = []; dirs = []; puts = places.link ∷ [] }
+    → ArePathsOf (add_patch roots key) paths
+link_paths_are roots key paths places are is = record {
+  drops = ap (λ (p : PatchPaths). p.drops) is;
+  wipes = ap (λ (p : PatchPaths). p.wipes) is;
+  dirs = ap (λ (p : PatchPaths). p.dirs) is;
+  puts = ap (λ (p : PatchPaths). p.puts) is ∙ ap (λ (p : Places). p.link ∷ []) are;
+}
+
+module _ (job : Job) (old mid : State) (begun : Txn) (b : BeginsTransaction job old mid (Ok begun)) where
   abbrev roots : Roots
   roots = job.host.roots
 
@@ -117,7 +134,8 @@ module _ (job : Job) (places : Places) (request : Option Request) (old mid : Sta
   pub still_root : AreApart roots → ForSome old.tree (λ tree. is_dir (node_at tree roots.dkms) ≡ true) → ForSome mid.tree (λ tree. is_dir (node_at tree begun.roots.dkms) ≡ true)
   still_root apart root now told =
       let was = before_aside roots old mid now told b.aside.ran_none.lasts.told b.aside.aside in
-      ap (λ (r : Roots). is_dir (node_at now r.dkms)) b.begun.roots ∙ ap is_dir (was.same roots.dkms (open_aside roots roots.dkms (dkms_open roots apart))) ∙ root was.tree was.told
+      ap (λ (r : Roots). is_dir (node_at now r.dkms)) b.begun.roots
+      ∙ ap is_dir (was.same roots.dkms (root_aside roots apart roots.dkms (at_0 roots.dkms (roots.src ∷ roots.modules ∷ roots.boot ∷ [])))) ∙ root was.tree was.told
 
   some_same : (a b : Tree) → Some a ≡ Some b → a ≡ b
   some_same a b e = cc
@@ -128,48 +146,51 @@ module _ (job : Job) (places : Places) (request : Option Request) (old mid : Sta
       let cleared = b.cleared was.tree was.told in
       (none_staged, subst (AreStagedFor begun none_staged) (some_same cleared.0 now (sym cleared.1 ∙ told)) cleared.2.staged)
 
-  module _ (staged : Txn) (new : State) (number : ℕ) (s : Stages root_name.Dkms (node.Link places.text) begun staged mid new (Ok number)) where
-    begun_aside : StaysAside roots mid new (Ok number)
-    begun_aside = subst (λ r. StaysAside r mid new (right number)) b.begun.roots s.aside
+  module _ (key : Key) (request : Option Request) (new : State) where
+    abbrev patch : Tree → Patch
+    patch tree = add_patch roots key
 
-    both : StaysAside roots old new (Ok number)
-    both = stays_then roots old mid new (Ok begun) (Ok number) b.aside begun_aside
+    module _ (staged : Txn) (number : ℕ) (s : Stages root_name.Dkms (node.Link (source_text roots key)) begun staged mid new (Ok number)) where
+      begun_aside : StaysAside roots mid new (Ok number)
+      begun_aside = subst (λ r. StaysAside r mid new (right number)) b.begun.roots s.aside
 
-    -- the link is staged, and no journal is begun
-    pub link_staged : ForSome old.tree (λ tree. HasLinkStaged roots places new.tree)
-    link_staged tree told =
-        let cleared = b.cleared tree told in
-        let now = s.staged cleared.0 cleared.1 in
-        let holds = (now.2.staged none_staged cleared.2.staged).held root_name.Dkms in
-        record {
-          now = now.0;
-          told = now.1;
-          staged = ap (λ (r : Roots). node_at now.0 (staged_path r root_name.Dkms 0)) (sym b.begun.roots) ∙ holds.held 0 (node.Link places.text) refl;
-          unbegun = ap (λ (r : Roots). node_at now.0 (new_intent_path r)) (sym b.begun.roots)
-              ∙ now.2.same (new_intent_path begun.roots) (under-beside begun.roots.dkms (codes ".intent.new" ∷ []) (codes ".kb-staged" ∷ []))
-              ∙ cleared.2.unbegun (new_intent_path begun.roots) (under-self (new_intent_path begun.roots));
-        }
+      both : StaysAside roots old new (Ok number)
+      both = stays_then roots old mid new (Ok begun) (Ok number) b.aside begun_aside
 
-    pub prepared : (txn : Txn) → txn.roots ≡ staged.roots → txn.intent.changes ≡ staged.intent.changes ++ changes_of_add places request → Prepares roots places request old new (Ok txn)
-    prepared txn same changes = record {
-      prepared = record {
-        roots_are = same ∙ ap (λ (t : Txn). t.roots) s.counted ∙ b.begun.roots;
-        changes = changes ∙ ap (λ (t : Txn). t.intent.changes ++ changes_of_add places request) s.counted ∙ ap (λ c. c ++ changes_of_add places request) b.begun.changes;
-      };
-      staged = link_staged;
-      aside = stays_as roots old new number (Ok txn) (λ why failed. let impossible : ◌≡◌ {A = Result Txn Stop} (Ok txn) (Err why) = failed in cc) both;
+      pub prepared : (txn : Txn) → txn.roots ≡ staged.roots → txn.intent.changes ≡ staged.intent.changes ++ changes_with staged.roots (add_patch roots key) request → Prepares roots patch request old new (Ok txn)
+      prepared txn same changes = record {
+        roots_are = same ∙ kept;
+        prepared = λ tree told.
+            let cleared = b.cleared tree told in
+            let now = s.staged cleared.0 cleared.1 in
+            let holds = (now.2.staged none_staged cleared.2.staged).held in
+            record {
+              now = now.0;
+              told = now.1;
+              changes = changes ∙ ap (λ (t : Txn). t.intent.changes ++ changes_with t.roots (add_patch roots key) request) s.counted
+                  ∙ (λ i. b.begun.changes i ++ changes_with (b.begun.roots i) (add_patch roots key) request);
+              staged = subst (λ nodes. HasStaged roots nodes now.0) (link_alone roots key)
+                  (subst (λ r. HasStaged r (with_staged root_name.Dkms (node.Link (source_text roots key)) none_staged) now.0) b.begun.roots (λ root number at got. (holds root).held number at got));
+              unbegun = ap (λ (r : Roots). node_at now.0 (new_intent_path r)) (sym b.begun.roots)
+                  ∙ now.2.same (new_intent_path begun.roots) (under-beside begun.roots.dkms (codes ".intent.new" ∷ []) (codes ".kb-staged" ∷ []))
+                  ∙ cleared.2.unbegun (new_intent_path begun.roots) (under-self (new_intent_path begun.roots));
+            };
+        aside = stays_as roots old new number (Ok txn) (λ why failed. let impossible : ◌≡◌ {A = Result Txn Stop} (Ok txn) (Err why) = failed in cc) both;
+      }
+        where
+          kept : staged.roots ≡ roots
+          kept = ap (λ (t : Txn). t.roots) s.counted ∙ b.begun.roots
+
+      pub unprepared : Prepares roots patch request old new (Err NoMemory)
+      unprepared = record {
+        roots_are = tt;
+        prepared = λ tree told. tt;
+        aside = stays_as roots old new number (Err NoMemory) (λ why failed. let same : NoMemory ≡ why = cc in sym same) both;
+      }
+
+    pub unstaged : (staged : Txn) (stop : Stop) → Stages root_name.Dkms (node.Link (source_text roots key)) begun staged mid new (Err stop) → Prepares roots patch request old new (Err stop)
+    unstaged staged stop s = record {
+      roots_are = tt;
+      prepared = λ tree told. tt;
+      aside = stays_stop roots old new stop (stays_then roots old mid new (Ok begun) (stopped {A = ℕ} stop) b.aside (subst (λ r. StaysAside r mid new (stopped {A = ℕ} stop)) b.begun.roots s.aside));
     }
-
-    pub unprepared : Prepares roots places request old new (Err NoMemory)
-    unprepared = record {
-      prepared = tt;
-      staged = λ tree told. tt;
-      aside = stays_as roots old new number (Err NoMemory) (λ why failed. let same : NoMemory ≡ why = cc in sym same) both;
-    }
-
-  pub unstaged : (staged : Txn) (new : State) (stop : Stop) → Stages root_name.Dkms (node.Link places.text) begun staged mid new (Err stop) → Prepares roots places request old new (Err stop)
-  unstaged staged new stop s = record {
-    prepared = tt;
-    staged = λ tree told. tt;
-    aside = stays_stop roots old new stop (stays_then roots old mid new (Ok begun) (stopped {A = ℕ} stop) b.aside (subst (λ r. StaysAside r mid new (stopped {A = ℕ} stop)) b.begun.roots s.aside));
-  }

@@ -15,12 +15,12 @@ ended which code text is other =
     ∙ sym (ap (λ b. cond b [] (warning_line (which ++ codes " ended with " ++ decimal code))) (ne_eqb code 0 other))
 
 -- one reply more is told of
-pub one_ending_more : (replies : List Reply) (i : ℕ) (d reply : Reply) (err before more : List ℕ) → i < length replies → reply ≡ get_or replies i d → err ≡ before ++ endings (take i replies)
-    → more ≡ err ++ ended_line (codes "POST_ADD") reply.code → more ≡ before ++ endings (take (i + 1) replies)
-one_ending_more replies i d reply err before more lt named so_far pushed =
+pub one_ending_more : (which : List ℕ) (replies : List Reply) (i : ℕ) (d reply : Reply) (err before more : List ℕ) → i < length replies → reply ≡ get_or replies i d → err ≡ before ++ endings which (take i replies)
+    → more ≡ err ++ ended_line which reply.code → more ≡ before ++ endings which (take (i + 1) replies)
+one_ending_more which replies i d reply err before more lt named so_far pushed =
     let last = get_or replies i d in
-    let line : Reply → List ℕ = λ r. ended_line (codes "POST_ADD") r.code in
-    let joined : endings (take (i + 1) replies) ≡ endings (take i replies) ++ endings (last ∷ []) =
-    ap endings (take_more replies i d lt) ∙ flat_map-append line (take i replies) (last ∷ []) in
-    pushed ∙ ap (λ r. err ++ line r) named ∙ ap (λ t. err ++ t) (sym (append-nil (line last))) ∙ ap (λ t. t ++ endings (last ∷ [])) so_far
-    ∙ append_assoc before (endings (take i replies)) (endings (last ∷ [])) ∙ ap (λ t. before ++ t) (sym joined)
+    let line : Reply → List ℕ = λ r. ended_line which r.code in
+    let joined : endings which (take (i + 1) replies) ≡ endings which (take i replies) ++ endings which (last ∷ []) =
+    ap (endings which) (take_more replies i d lt) ∙ flat_map-append line (take i replies) (last ∷ []) in
+    pushed ∙ ap (λ r. err ++ line r) named ∙ ap (λ t. err ++ t) (sym (append-nil (line last))) ∙ ap (λ t. t ++ endings which (last ∷ [])) so_far
+    ∙ append_assoc before (endings which (take i replies)) (endings which (last ∷ [])) ∙ ap (λ t. before ++ t) (sym joined)

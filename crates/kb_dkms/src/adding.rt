@@ -61,7 +61,8 @@ fn add_and_run<W: World>(
         Ok(replies) => replies,
         Err(stop) => return Err(stop),
     };
-    Ok(push_endings(alloc, &mut report.err, replies.as_slice())?)
+    push_endings(alloc, &mut report.err, "POST_ADD", replies.as_slice())?;
+    Ok(())
 }
 
 // Goes on once the conf is read.

@@ -30,16 +30,17 @@ fn push_ended(alloc: Global, err: &mut Bytes, which: &str, code: u8) -> Result<(
     push_warning(alloc, err, &text)
 }
 
-/// Adds the warnings of the script that is run behind an add.
+/// Adds the warnings of the script of this name.
 pub(crate) fn push_endings(
     alloc: Global,
     err: &mut Bytes,
+    which: &str,
     replies: &[Reply],
 ) -> Result<(), AllocError>
-    ensures { OnOk result (err.new ≡ err.old ++ endings replies.now) }
+    ensures { OnOk result (err.new ≡ err.old ++ endings which.now replies.now) }
 {
     for reply in replies {
-        push_ended(alloc, err, "POST_ADD", reply.code)?;
+        push_ended(alloc, err, which, reply.code)?;
     }
     Ok(())
 }

@@ -50,13 +50,13 @@ none_staged = record { dkms = []; src = []; «modules» = []; boot = [] }
 abbrev pub with_count : RootName → Txn → Txn
 with_count root txn = record txn { staged = one_more root txn.staged }
 
--- it has these changes more, and nothing else is changed
-abbrev pub with_changes_behind : List Change → Txn → Txn
-with_changes_behind changes txn = record txn { intent = record txn.intent { changes = txn.intent.changes ++ changes } }
+-- it has these changes, and nothing else is changed
+abbrev pub with_changes : List Change → Txn → Txn
+with_changes changes txn = record txn { intent = record txn.intent { changes = changes } }
 
--- it has one more
+-- it has one change more, and nothing else is changed
 abbrev pub with_change_behind : Change → Txn → Txn
-with_change_behind change txn = with_changes_behind (change ∷ []) txn
+with_change_behind change txn = with_changes (txn.intent.changes ++ change ∷ []) txn
 
 -- these nodes are staged for the transaction, no others, and it counts them
 pub record AreStagedFor (txn : Txn) (staged : Staged) (tree : Tree) : Type 0 where

@@ -1,17 +1,17 @@
 // A transaction is put together.
-ghost use Rattle.std.specs.Prelude.{◌≡◌, ◌+◌, ◌<◌, ◌^◌, true, IfOk, OnErr, OnOk};
+ghost use Rattle.std.specs.Prelude.{◌≡◌, ◌+◌, ◌++◌, ◌<◌, ◌^◌, true, IfOk, OnErr, OnOk};
 ghost use Rattle.std.specs.Option.{ForSome};
 ghost use Rattle.kb_world.specs.Patch.{Patch};
 ghost use Rattle.kb_world.specs.Roots.{AreApart};
 ghost use Rattle.kb_world.specs.Tree.{node_at, is_dir};
 ghost use Rattle.kb_world.specs.declared.tree.Node.TheVariants as nodes;
 ghost use Rattle.kb_changes.specs.Change.{root_path};
-ghost use Rattle.kb_changes.specs.Changes as changes;
+ghost use Rattle.kb_changes.specs.Changes as changes_rule;
 ghost use Rattle.kb_changes.specs.Counts.{count_below};
 ghost use Rattle.kb_changes.specs.PatchPaths.{ArePathsOf};
 ghost use Rattle.kb_intent.specs.Staging.{staged_node};
 ghost use Rattle.kb_intent.specs.Txn.{BeginsTransaction, IsNewTransaction, IsStagedFor, Stages};
-ghost use Rattle.kb_intent.specs.Txn.{with_change_behind, with_changes_behind};
+ghost use Rattle.kb_intent.specs.Txn.{with_change_behind, with_changes};
 
 use crate::staging::{Content, left_places, put_staged_content, wipe_each};
 use kb_changes::{Change, Counts, Intent, PatchPaths, RootName, changes_of, staged_path};
@@ -151,8 +151,10 @@ impl Txn {
     /// Adds the changes of a patch with these paths behind the others. An error changes nothing.
     /// The Puts below a root are numbered from 0: what they put has to be staged before all else.
     pub fn add_all(&mut self, alloc: Global, paths: &PatchPaths) -> Result<(), AllocError>
-        ensures ok { OnOk result ((patch : Patch) → ArePathsOf patch paths.now
-            → self.new ≡ with_changes_behind (changes.changes_of self.old.roots patch) self.old) }
+        ensures changes { OnOk result ((patch : Patch) → ArePathsOf patch paths.now
+            → self.new.intent.changes
+            ≡ self.old.intent.changes ++ changes_rule.changes_of self.old.roots patch) }
+        ensures others { self.new ≡ with_changes self.new.intent.changes self.old }
         ensures err { OnErr result (self.new ≡ self.old) }
     {
         let mut made = changes_of(alloc, &self.roots, paths)?;

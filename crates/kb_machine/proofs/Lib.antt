@@ -3,6 +3,7 @@ pub mod AsideThenLaws
 pub mod AsksLaws
 pub mod CommitLaws
 pub mod EachLaws
+pub mod FitLaws
 pub mod GatherLaws
 pub mod LookLaws
 pub mod RestLaws

@@ -1,8 +1,10 @@
 -- The link stands and its script is run by one commit.
 use Rattle.std.proofs.Common.{◌++◌, ap, ◌∙◌}
+use Rattle.std.specs.Prelude.{codes}
 use Rattle.kb_dkms.specs.Add.{add_and_run}
 use Rattle.kb_dkms.specs.Commit.{endings}
-use Rattle.kb_dkms.proofs.AddRun.{unprepared_add, add_is_valid, root_there, bare_there, did_add, stopped_add, untold_add}
+use Rattle.kb_dkms.proofs.AddRun.{add_commits}
+use Rattle.kb_dkms.proofs.CommitPatch.{unprepared, valid_there, root_there, bare_there, did, was_stopped, was_untold}
 use Rattle.kb_dkms.proofs.WantLaws.{wants_first, answers_wanting}
 use Rattle.kb_dkms.proofs.adding.add_and_run.Goals as goal
 
@@ -23,45 +25,50 @@ returns-in_err-request g c =
 
 pub returns-in-Err : goal.returns-in-Err
 returns-in-Err g c =
-    let source = c.args.source in
-    unprepared_add source.job.now.host c.requires.apart source.key.now c.requires.named c.args.conf.now source.places.now c.requires.places _ c.as_ref.ensures.value c.in_ok-request.request c.in_ok-request.ensures _ _
-    c.requires.can (g.met.W.World.formed c.args.world.now) c.args.report.now _ c.in-Err.stop c.in-Err.ensures
+    unprepared (add_and_run c.args.source.job.now.host (g.W.World.state c.args.world.now).script c.args.source.key.now c.args.conf.now) (g.met.W.World.formed c.args.world.now) c.args.report.now _ c.in-Err.ensures
 
 pub commit-requires-clause-valid : goal.commit-requires-clause-valid
-commit-requires-clause-valid g c tree told =
+commit-requires-clause-valid g c =
     let source = c.args.source in
-    add_is_valid source.job.now.host c.requires.apart source.key.now c.requires.named c.args.conf.now source.places.now c.requires.places _ c.as_ref.ensures.value c.in_ok-request.request c.in_ok-request.ensures _ _
-    c.requires.can (g.met.W.World.formed c.args.world.now) c.in-Ok.txn c.in-Ok.ensures (g.met.W.World.formed c.prepare.new.world)
+    let is = add_commits source.job.now.host c.requires.apart source.key.now c.requires.named c.args.conf.now _ c.as_ref.ensures.value c.in_ok-request.request c.in_ok-request.ensures (g.W.World.state c.args.world.now)
+    c.requires.can (g.met.W.World.formed c.args.world.now) in
+    valid_there c.requires.apart is c.in-Ok.ensures (g.met.W.World.formed c.prepare.new.world)
 
 pub commit-requires-clause-dkms : goal.commit-requires-clause-dkms
 commit-requires-clause-dkms g c =
     let source = c.args.source in
-    root_there source.job.now.host c.requires.apart source.key.now c.requires.named c.args.conf.now source.places.now c.requires.places _ c.as_ref.ensures.value c.in_ok-request.request c.in_ok-request.ensures _ _
-    c.requires.can (g.met.W.World.formed c.args.world.now) c.in-Ok.txn c.in-Ok.ensures (g.met.W.World.formed c.prepare.new.world)
+    let is = add_commits source.job.now.host c.requires.apart source.key.now c.requires.named c.args.conf.now _ c.as_ref.ensures.value c.in_ok-request.request c.in_ok-request.ensures (g.W.World.state c.args.world.now)
+    c.requires.can (g.met.W.World.formed c.args.world.now) in
+    root_there c.requires.apart is c.in-Ok.ensures (g.met.W.World.formed c.prepare.new.world)
 
 pub commit-requires-clause-bare : goal.commit-requires-clause-bare
 commit-requires-clause-bare g c =
     let source = c.args.source in
-    bare_there source.job.now.host c.requires.apart source.key.now c.requires.named c.args.conf.now source.places.now c.requires.places _ c.as_ref.ensures.value c.in_ok-request.request c.in_ok-request.ensures _ _
-    c.requires.can (g.met.W.World.formed c.args.world.now) c.in-Ok.txn c.in-Ok.ensures (g.met.W.World.formed c.prepare.new.world)
+    let is = add_commits source.job.now.host c.requires.apart source.key.now c.requires.named c.args.conf.now _ c.as_ref.ensures.value c.in_ok-request.request c.in_ok-request.ensures (g.W.World.state c.args.world.now)
+    c.requires.can (g.met.W.World.formed c.args.world.now) in
+    bare_there c.requires.apart is c.in-Ok.ensures (g.met.W.World.formed c.prepare.new.world)
 
 pub returns-in-Err-commit : goal.returns-in-Err-commit
 returns-in-Err-commit g c =
     let source = c.args.source in
-    stopped_add source.job.now.host c.requires.apart source.key.now c.requires.named c.args.conf.now source.places.now c.requires.places _ c.as_ref.ensures.value c.in_ok-request.request c.in_ok-request.ensures _ _
-    c.requires.can (g.met.W.World.formed c.args.world.now) c.in-Ok.txn c.in-Ok.ensures (g.met.W.World.formed c.prepare.new.world) _ c.args.report.now _ c.in-Err-commit.stop c.in-Err-commit.ensures
+    let is = add_commits source.job.now.host c.requires.apart source.key.now c.requires.named c.args.conf.now _ c.as_ref.ensures.value c.in_ok-request.request c.in_ok-request.ensures (g.W.World.state c.args.world.now)
+    c.requires.can (g.met.W.World.formed c.args.world.now) in
+    was_stopped c.requires.apart is c.in-Ok.ensures (g.met.W.World.formed c.prepare.new.world) _ c.args.report.now _ c.in-Err-commit.stop c.in-Err-commit.ensures
 
 pub returns-in_err-push_endings : goal.returns-in_err-push_endings
 returns-in_err-push_endings g c =
     let source = c.args.source in
     let host = source.job.now.host in
+    let is = add_commits host c.requires.apart source.key.now c.requires.named c.args.conf.now _ c.as_ref.ensures.value c.in_ok-request.request c.in_ok-request.ensures (g.W.World.state c.args.world.now)
+    c.requires.can (g.met.W.World.formed c.args.world.now) in
     answers_wanting host.roots (add_and_run host (g.W.World.state c.args.world.now).script source.key.now c.args.conf.now) _ _ c.args.report.now _ c.from_residual-in_err-push_endings.result c.from_residual-in_err-push_endings.ensures.1
-    (untold_add source.job.now.host c.requires.apart source.key.now c.requires.named c.args.conf.now source.places.now c.requires.places _ c.as_ref.ensures.value c.in_ok-request.request c.in_ok-request.ensures _ _
-    c.requires.can (g.met.W.World.formed c.args.world.now) c.in-Ok.txn c.in-Ok.ensures (g.met.W.World.formed c.prepare.new.world) _ c.args.report.now _ c.in-Ok-commit.replies c.in-Ok-commit.ensures)
+    (was_untold c.requires.apart is c.in-Ok.ensures (g.met.W.World.formed c.prepare.new.world) _ c.args.report.now _ c.in-Ok-commit.replies c.in-Ok-commit.ensures)
 
 pub returns : goal.returns
 returns g c =
     let source = c.args.source in
-    did_add source.job.now.host c.requires.apart source.key.now c.requires.named c.args.conf.now source.places.now c.requires.places _ c.as_ref.ensures.value c.in_ok-request.request c.in_ok-request.ensures _ _
-    c.requires.can (g.met.W.World.formed c.args.world.now) c.in-Ok.txn c.in-Ok.ensures (g.met.W.World.formed c.prepare.new.world) _ c.args.report.now _ c.in-Ok-commit.replies c.in-Ok-commit.ensures
-    c.as_bytes.result.now (c.as_bytes.ensures.value ∙ c.in_ok-line.ensures.ok) c.in_ok-push.ensures.ok (c.in_ok-push_endings.ensures ∙ ap (λ replies. c.args.report.now.err ++ endings replies) c.as_slice.ensures)
+    let is = add_commits source.job.now.host c.requires.apart source.key.now c.requires.named c.args.conf.now _ c.as_ref.ensures.value c.in_ok-request.request c.in_ok-request.ensures (g.W.World.state c.args.world.now)
+    c.requires.can (g.met.W.World.formed c.args.world.now) in
+    did c.requires.apart is c.in-Ok.ensures (g.met.W.World.formed c.prepare.new.world) _ c.args.report.now _ c.in-Ok-commit.replies c.in-Ok-commit.ensures
+    (c.in_ok-push.ensures.ok ∙ ap (λ line. c.args.report.now.out ++ line) (c.as_bytes.ensures.value ∙ c.in_ok-line.ensures.ok))
+    (c.in_ok-push_endings.ensures ∙ ap (λ replies. c.args.report.now.err ++ endings (codes "POST_ADD") replies) c.as_slice.ensures)
