@@ -8,7 +8,7 @@ use Rattle.std.specs.List.{All, AllByRecursion}
 use Rattle.std.specs.Option.{ForSome}
 use Rattle.kb_world.specs.Crash.{History}
 use Rattle.kb_world.specs.Path.{Path, is_under}
-use Rattle.kb_world.specs.Public.{IsAlwaysPublic, intent_path, is_private, staging_path}
+use Rattle.kb_world.specs.Public.{intent_path, is_private, staging_path}
 use Rattle.kb_world.specs.Roots.{AreApart}
 use Rattle.kb_world.specs.State.{State, Looks, Unchanged, HasCause, RanNone}
 use Rattle.kb_world.specs.Stop.{stop_for}
@@ -22,19 +22,20 @@ use Rattle.kb_world.specs.declared.tree.Node.TheVariants as node
 use Rattle.kb_world.specs.declared.world.WorldError.{WorldError}
 use Rattle.kb_world.proofs.CrashLaws.{adds_none}
 use Rattle.kb_world.proofs.DoesLaws.{unchanged_none, no_cause}
-use Rattle.kb_world.proofs.PublicLaws.{in_src}
 use Rattle.kb_walk.specs.Walking.{is_leaf_kind}
 use Rattle.kb_walk.specs.declared.walking.Met.{Met}
 use Rattle.kb_changes.specs.Changes.{Staged}
 use Rattle.kb_changes.specs.declared.change.RootName.TheVariants as root_name
 use Rattle.kb_machine.specs.Aside.{is_aside, IsSameBut, IsOldOrAside, LeftAside, WorksAside}
+use Rattle.kb_again.proofs.RootLaws.{at_1}
 use Rattle.kb_machine.proofs.AsideThenLaws.{aside_none}
+use Rattle.kb_machine.proofs.FitLaws.{root_aside}
 use Rattle.kb_intent.specs.Txn.{StaysAside, Stages, IsStagedFor, AreStagedFor}
 use Rattle.kb_intent.specs.declared.txn.Txn.{Txn}
 use Rattle.kb_intent.proofs.ButLaws.{stays_done, stays_stopped}
 use Rattle.kb_intent.proofs.StopLaws.{done_unrefused}
-use Rattle.kb_dkms.specs.Staged.{leaves_met, node_there, nodes_met, StandsAsMet, with_sources, with_sources_counted, AreSourcesStaged, AreSourcesStagedNow, StagesSources, StagesMet}
-use Rattle.kb_dkms.proofs.PrepareLaws.{ToldBefore, before_aside, open_aside, stays_then, stays_as, stays_stop}
+use Rattle.kb_dkms.specs.Copying.{leaves_met, node_there, nodes_met, StandsAsMet, with_sources, with_sources_counted, AreSourcesStaged, AreSourcesStagedNow, StagesSources, StagesMet}
+use Rattle.kb_dkms.proofs.PrepareLaws.{ToldBefore, before_aside, stays_then, stays_as, stays_stop}
 
 abbrev right : {T : Type 0} → T → Result T Stop
 right value = Ok value
@@ -269,8 +270,8 @@ module _ (met : List Met) (i : ℕ) (entry : Met) (within : i < length met) (is 
 own_aside : (roots : Roots) (path : Path) → is_private roots path ≡ false → is_aside roots path ≡ false
 own_aside roots path own = ap (λ b. b && not (is_under path (intent_path roots))) own
 
-src_open : (roots : Roots) → AreApart roots → IsAlwaysPublic roots roots.src
-src_open roots apart = subst (IsAlwaysPublic roots) (append-nil roots.src) (in_src roots apart [] refl)
+src_kept : (roots : Roots) → AreApart roots → is_aside roots roots.src ≡ false
+src_kept roots apart = root_aside roots apart roots.src (at_1 roots.dkms roots.src (roots.modules ∷ roots.boot ∷ []))
 
 module _ (met : List Met) (i : ℕ) (before between : Txn) (old mid : State) (apart : AreApart before.roots) (standing : ForSome old.tree (λ tree. All (StandsAsMet before.roots tree) met))
     (so_far : StagesMet (take i met) before between {T = Unit {0}} old mid (right tt)) where
@@ -280,7 +281,7 @@ module _ (met : List Met) (i : ℕ) (before between : Txn) (old mid : State) (ap
   pub still_there : ForSome old.tree (λ tree. is_dir (node_at tree before.roots.src) ≡ true) → ForSome mid.tree (λ tree. is_dir (node_at tree between.roots.src) ≡ true)
   still_there there now told =
       ap (λ (r : Roots). is_dir (node_at now r.src)) so_far.roots
-      ∙ ap is_dir ((was now told).same before.roots.src (open_aside before.roots before.roots.src (src_open before.roots apart))) ∙ there (was now told).tree (was now told).told
+      ∙ ap is_dir ((was now told).same before.roots.src (src_kept before.roots apart)) ∙ there (was now told).tree (was now told).told
 
   pub still_staged : ForSome old.tree (IsStagedFor before) → ForSome mid.tree (IsStagedFor between)
   still_staged staged now told =

@@ -1,5 +1,4 @@
--- What `dkms add` of a directory names and stages, by what a walk met below it, and that there is still room for it once
--- that is staged.
+-- What `dkms add` of a directory names and stages, by what a walk met below it.
 use Rattle.std.proofs.Common.{◌≡◌, suc, ◌<◌, ◌^◌, Bool, true, false, List, [], ◌∷◌, ◌++◌, length, map, Option, None, refl, sym, ap, ◌∙◌, subst, arith}
 use Rattle.std.proofs.lemmas.List.{map-id, append-nil}
 use Rattle.std.proofs.lemmas.Simd.{map-map}
@@ -9,7 +8,7 @@ use Rattle.std.specs.FinMap.{keys}
 use Rattle.std.specs.Option.{option_or}
 use Rattle.kb_world.specs.Layout.{whole_tree}
 use Rattle.kb_world.specs.Path.{Path}
-use Rattle.kb_world.specs.Public.{IsAlwaysPublic, is_private, public_tree}
+use Rattle.kb_world.specs.Public.{is_private}
 use Rattle.kb_world.specs.Roots.{AreApart, is_below}
 use Rattle.kb_world.specs.Steps.{add_tree_patch}
 use Rattle.kb_world.specs.Store.{is_key, module_path, version_path, link_path, source_path, source_text}
@@ -20,8 +19,6 @@ use Rattle.kb_world.specs.declared.tree.Kind.{Kind}
 use Rattle.kb_world.specs.declared.tree.Node.{Node}
 use Rattle.kb_world.specs.declared.tree.Node.TheVariants as node
 use Rattle.kb_world.proofs.AboveLaws.{all-all, all-map, all-passing}
-use Rattle.kb_world.proofs.PublicLaws.{in_src, shown}
-use Rattle.kb_world.proofs.StepLaws.{blocking-same}
 use Rattle.kb_walk.specs.Walking.{LIMITS, met_at, walked, is_dir_kind, is_leaf_kind}
 use Rattle.kb_walk.specs.declared.walking.Met.{Met}
 use Rattle.kb_walk.specs.declared.walking.Walk.{Walk}
@@ -33,8 +30,6 @@ use Rattle.kb_changes.specs.Changes.{nodes_of}
 use Rattle.kb_changes.specs.Fit.{IsFit, MayStand}
 use Rattle.kb_changes.proofs.TreeFits.{HasRoomForCopy, add_tree_fits, add_tree_stands}
 use Rattle.kb_changes.proofs.TreePatch.{filter-map, filter-same, copied_paths, copied_dirs, copied_leaves, copy_path, copy_at, link_put, dirs_are, puts_are, targets_are, nodes_are}
-use Rattle.kb_dkms.proofs.AddLaws.{are_public}
-use Rattle.kb_dkms.proofs.PrepareLaws.{dkms_open}
 
 abbrev path_met : Met → Path
 path_met met = met.path
@@ -132,25 +127,3 @@ module _ (roots : Roots) (tree : Tree) (from : Path) (ended : (walked LIMITS tre
 
       pub tree_stands : MayStand roots (add_tree_patch roots key from (whole_tree roots tree))
       tree_stands = add_tree_stands roots apart key named from whole few_copied
-
--- ---- what is staged takes no room
-
-module _ (roots : Roots) (apart : AreApart roots) (key : Key) (named : is_key key ≡ true) (tree now : Tree) (same : public_tree roots now ≡ public_tree roots tree) where
-  stands_same : (q : Path) → IsAlwaysPublic roots q → node_at now q ≡ node_at tree q
-  stands_same q opens = sym (shown roots now q opens) ∙ ap (λ t. node_at t q) same ∙ shown roots tree q opens
-
-  -- where the public tree is as it was, so is the room
-  pub room_kept : IsFormed now → HasRoomForCopy roots key tree → HasRoomForCopy roots key now
-  room_kept formed room =
-      let opens = are_public roots apart key named in
-      let src_opens : IsAlwaysPublic roots roots.src = subst (IsAlwaysPublic roots) (append-nil roots.src) (in_src roots apart [] refl) in
-      let module_same = blocking-same (module_path roots key) now tree (stands_same (module_path roots key) opens.package_directory) in
-      let version_same = blocking-same (version_path roots key) now tree (stands_same (version_path roots key) opens.version) in
-      record {
-        formed = formed;
-        dkms = ap is_dir (stands_same roots.dkms (dkms_open roots apart)) ∙ room.dkms;
-        src = ap is_dir (stands_same roots.src src_opens) ∙ room.src;
-        unblocked = (λ i. option_or (module_same i) (version_same i)) ∙ room.unblocked;
-        no_link = stands_same (link_path roots key) opens.link ∙ room.no_link;
-        no_source = stands_same (source_path roots key) opens.source ∙ room.no_source;
-      }

@@ -1,7 +1,7 @@
 pub mod Add
 pub mod AddTree
 pub mod Commit
+pub mod Copying
 pub mod Host
 pub mod Places
 pub mod Scripts
-pub mod Staged

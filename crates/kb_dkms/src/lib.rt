@@ -5,6 +5,7 @@ mod adding;
 mod copying;
 mod places;
 mod preparing;
+mod preparing_copy;
 mod scripts;
 mod staging;
 

@@ -6,7 +6,7 @@ ghost use Rattle.kb_world.specs.Roots.{AreApart};
 ghost use Rattle.kb_world.specs.Tree.{node_at, is_dir};
 ghost use Rattle.kb_world.specs.declared.tree.Node.TheVariants as node;
 ghost use Rattle.kb_intent.specs.Txn.{IsStagedFor};
-ghost use Rattle.kb_dkms.specs.Staged.{StandsAsMet, StagesMet, StagesSources, node_there};
+ghost use Rattle.kb_dkms.specs.Copying.{StandsAsMet, StagesMet, StagesSources, node_there};
 
 use kb_intent::{RootName, Txn};
 use kb_walk::Met;

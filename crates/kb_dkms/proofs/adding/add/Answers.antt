@@ -33,14 +33,14 @@ returns-in-Err-load_conf g c =
     let places = c.in_ok-places in
     let for = for_host host _ c.in_ok-given.given c.as_ref.ensures.value c.in_ok-given.ensures in
     add_unread host c.requires.apart c.args.key.now c.requires.named (g.W.World.state c.args.world.now).script places.places.link (ap (λ (p : Places). p.link) places.ensures) places.places.source
-    (ap (λ (p : Places). p.source) places.ensures) c.in_ok-given.given for _ _ _ c.args.report.now c.in-Err-load_conf.stop c.requires.sound c.in-Ok.ensures c.in-Err-load_conf.ensures
+    (ap (λ (p : Places). p.source) places.ensures) c.in_ok-given.given for _ _ _ c.args.report.now c.in-Err-load_conf.stop c.requires.sound c.in-Ok.ensures c.in-Err-load_conf.ensures.given
 
 pub add_with-requires-clause-unadded : goal.add_with-requires-clause-unadded
 add_with-requires-clause-unadded g c now told =
     let roots = c.args.job.now.host.roots in
-    let was = sym c.in-Ok.ensures.unchanged.tree ∙ sym c.in-Ok-load_conf.ensures.unchanged.tree ∙ told in
+    let was = sym c.in-Ok.ensures.unchanged.tree ∙ sym c.in-Ok-load_conf.ensures.given.unchanged.tree ∙ told in
     let none = sym (ap (λ (p : Places). standing c.args.key.now p.link now) c.in_ok-places.ensures) ∙ c.in-Ok.ensures.agrees now was in
-    let source = loaded_dir c.in_ok-places.places.source (Some c.args.key.now) c.in_ok-given.given now c.in-Ok-load_conf.conf (c.in-Ok-load_conf.ensures.answers now (sym c.in-Ok-load_conf.ensures.unchanged.tree ∙ told)) in
+    let source = loaded_dir c.in_ok-places.places.source (Some c.args.key.now) c.in_ok-given.given now c.in-Ok-load_conf.conf (c.in-Ok-load_conf.ensures.given.answers now (sym c.in-Ok-load_conf.ensures.given.unchanged.tree ∙ told)) in
     is_unadded roots c.args.key.now now (c.requires.root now was) (c.requires.bare now was) none (ap (λ (p : Places). is_dir (node_at now p.source)) (sym c.in_ok-places.ensures) ∙ source)
 
 pub returns : goal.returns
@@ -49,4 +49,4 @@ returns g c =
     let places = c.in_ok-places in
     let for = for_host host _ c.in_ok-given.given c.as_ref.ensures.value c.in_ok-given.ensures in
     add_read host c.requires.apart c.args.key.now c.requires.named places.places.link (ap (λ (p : Places). p.link) places.ensures) places.places.source
-    (ap (λ (p : Places). p.source) places.ensures) c.in_ok-given.given for c.in-Ok-load_conf.conf _ _ _ _ c.args.report.now _ c.add_with.result c.requires.sound c.in-Ok.ensures c.in-Ok-load_conf.ensures c.add_with.ensures
+    (ap (λ (p : Places). p.source) places.ensures) c.in_ok-given.given for c.in-Ok-load_conf.conf _ _ _ _ c.args.report.now _ c.add_with.result c.requires.sound c.in-Ok.ensures c.in-Ok-load_conf.ensures.given c.add_with.ensures

@@ -1,5 +1,5 @@
 use Rattle.std.proofs.Common.{take, Ok}
-use Rattle.kb_dkms.specs.Staged.{StagesMet}
+use Rattle.kb_dkms.specs.Copying.{StagesMet}
 use Rattle.kb_dkms.proofs.staging.stage_all_met.Given as goal
 
 abbrev pub invariant-loop-entry : goal.invariant-loop-entry

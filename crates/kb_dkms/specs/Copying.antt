@@ -1,6 +1,5 @@
--- What is staged of a directory that is copied: its files and links, in the order in which they were met. This project's
--- own.
-use Rattle.std.specs.Prelude.{◌≡◌, ℕ, ◌+◌, false, List, ◌++◌, length, map, filter, unwrap_or, Option, Some, Result, OnOk}
+-- A directory that is copied: what is staged of it, and the paths that it is copied to. This project's own.
+use Rattle.std.specs.Prelude.{◌≡◌, ℕ, ◌+◌, false, List, [], ◌∷◌, ◌++◌, length, drop, map, filter, unwrap_or, Option, Some, Result, OnOk}
 use Rattle.std.specs.Option.{ForSome}
 use Rattle.kb_world.specs.Path.{Path, is_under}
 use Rattle.kb_world.specs.Public.{is_private, staging_path}
@@ -10,12 +9,14 @@ use Rattle.kb_world.specs.declared.roots.Roots.{Roots}
 use Rattle.kb_world.specs.declared.stop.Stop.{Stop}
 use Rattle.kb_world.specs.declared.tree.Node.{Node}
 use Rattle.kb_world.specs.declared.tree.Node.TheVariants as node
-use Rattle.kb_walk.specs.Walking.{is_leaf_kind}
+use Rattle.kb_walk.specs.Walking.{is_dir_kind, is_leaf_kind}
 use Rattle.kb_walk.specs.declared.walking.Met.{Met}
 use Rattle.kb_changes.specs.Changes.{Staged}
+use Rattle.kb_changes.specs.declared.patch_paths.PatchPaths.{PatchPaths}
 use Rattle.kb_machine.specs.Aside.{IsSameBut}
 use Rattle.kb_intent.specs.Txn.{StaysAside, AreStagedFor}
 use Rattle.kb_intent.specs.declared.txn.Txn.{Txn}
+use Rattle.kb_dkms.specs.declared.places.Places.{Places}
 
 -- ---- what was met
 
@@ -65,3 +66,26 @@ pub record StagesSources (nodes : Tree → List Node) (count : ℕ) (before afte
 -- The call stages the files and links of what was met.
 abbrev pub StagesMet : List Met → Txn → Txn → {T : Type 0} → State → State → Result T Stop → Type 0
 StagesMet met before after old new result = StagesSources (nodes_met met) (length (leaves_met met)) before after old new result
+
+-- ---- where it is copied to
+
+-- the same names below the source
+abbrev pub place_copied : Path → Path → Path → Path
+place_copied source from path = source ++ drop (length from) path
+
+-- the places of what was met
+abbrev pub places_copied : Path → Path → List Met → List Path
+places_copied source from met = map (λ entry. place_copied source from entry.path) met
+
+-- the directories among it
+abbrev pub dirs_met : List Met → List Met
+dirs_met met = filter (λ entry. is_dir_kind entry.kind) met
+
+-- the paths of the patch that copies them, and makes the link of the package
+abbrev pub paths_copied : Places → Path → List Met → PatchPaths
+paths_copied places from met = record {
+  drops = [];
+  wipes = [];
+  dirs = places.source ∷ places_copied places.source from (dirs_met met);
+  puts = places_copied places.source from (leaves_met met) ++ places.link ∷ [];
+}
