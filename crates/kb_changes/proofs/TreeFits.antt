@@ -55,7 +55,8 @@ filter-most {X} test (x ∷ xs) = by (test x) (filter-most test xs)
 leaf_no_dir : (at : Option Node) → is_leaf at ≡ true → is_dir at ≡ true → ⊥
 leaf_no_dir at leaf dir = untrue (sym (not_true (is_dir at) (second_so (is_some at) (not (is_dir at)) leaf)) ∙ dir)
 
--- the roots stand, nothing stands at a version's source or its link, and nothing is in the way of the link's directories
+-- the roots dkms and src are there, nothing stands at a version's source or its link, and nothing is in the way of the
+-- link's directories
 pub record HasRoomForCopy (roots : Roots) (key : Key) (tree : Tree) : Type 0 where
   pub formed : IsFormed tree
   pub dkms : is_dir (node_at tree roots.dkms) ≡ true
@@ -64,7 +65,7 @@ pub record HasRoomForCopy (roots : Roots) (key : Key) (tree : Tree) : Type 0 whe
   pub no_link : node_at tree (link_path roots key) ≡ None
   pub no_source : node_at tree (source_path roots key) ≡ None
 
--- then nothing stands below the source either
+-- below a path at which nothing stands nothing does either
 nothing_below : (tree : Tree) → IsFormed tree → (directory : Path) → node_at tree directory ≡ None → (q : Path) → is_under q directory ≡ true → node_at tree q ≡ None
 nothing_below tree formed directory none q under = by (drop (length directory) q) (under-split q directory under) (node_at tree q) refl
   where
@@ -91,6 +92,7 @@ module _ (roots : Roots) (apart : AreApart roots) (key : Key) (named : is_key ke
   below_src : (rest : Path) → is_below (source ++ rest) roots.src ≡ true
   below_src rest = ap (λ p. is_below p roots.src) (split rest) ∙ below-append roots.src source_name rest
 
+  -- what is at or below it is public, whatever stands there
   source_own : (q : Path) → is_under q source ≡ true → IsInOwnRoot roots q
   source_own q under = subst (IsInOwnRoot roots) (sym (under-split q source under)) (record {
     opens = subst (IsAlwaysPublic roots) (sym (split rest)) (in_src roots apart (source_name ∷ rest) source_begins);
@@ -100,11 +102,11 @@ module _ (roots : Roots) (apart : AreApart roots) (key : Key) (named : is_key ke
       rest : Path
       rest = drop (length source) q
 
-  -- the link isn't there
+  -- the link isn't below the root of sources
   link_elsewhere : is_under (link_path roots key) roots.src ≡ false
   link_elsewhere = elsewhere (link_path roots key) roots.dkms roots.src (written_apart roots apart).dkms_src (first_so (is_under (link_path roots key) roots.dkms) _ (link_below roots apart key named))
 
-  -- the directories above what is there are there
+  -- the directories between that root and what is at or below the source are the source and those below it
   above_source : (p q : Path) → is_under p source ≡ true → is_listed q (above roots p) ≡ true → is_under q source ≡ true
   above_source p q under listed = by (drop (length source) p) (sym (ap (is_listed q) (ap (above roots) (under-split p source under ∙ split (drop (length source) p)) ∙ above-src roots (written_apart roots apart).dkms_src (source_name ∷ drop (length source) p))) ∙ listed)
     where
@@ -180,10 +182,16 @@ module _ (roots : Roots) (apart : AreApart roots) (key : Key) (named : is_key ke
           | inr is ↦ as_link is
         ]
 
+    source_or_link : (p : Path) → ComesAs p → (is_under p source ≡ true) ⊎ (p ≡ link_path roots key)
+    source_or_link p (as_source is) = inl (ap (λ x. is_under x source) is ∙ under-self source)
+    source_or_link p (as_copy c) = inl (ap (λ x. is_under x source) c.is ∙ is_under_source c.origin)
+    source_or_link p (as_link is) = inr is
+
     comes_own : (p : Path) → ComesAs p → IsInOwnRoot roots p
-    comes_own p (as_source is) = source_own p (ap (λ x. is_under x source) is ∙ under-self source)
-    comes_own p (as_copy c) = source_own p (ap (λ x. is_under x source) c.is ∙ is_under_source c.origin)
-    comes_own p (as_link is) = subst (IsInOwnRoot roots) (sym is) (link_own roots apart key named)
+    comes_own p comes = elim (source_or_link p comes) [
+      | inl under ↦ source_own p under
+      | inr is ↦ subst (IsInOwnRoot roots) (sym is) (link_own roots apart key named)
+    ]
 
     all_own : AllByRecursion (IsInOwnRoot roots) (coming_paths patch)
     all_own = all_listed (IsInOwnRoot roots) (coming_paths patch) (λ p listed. comes_own p (comes_as p listed))
@@ -225,13 +233,12 @@ module _ (roots : Roots) (apart : AreApart roots) (key : Key) (named : is_key ke
     made_where : (q : Path) → is_listed q (dirs_of roots patch) ≡ true → (is_under q source ≡ true) ⊎ IsAboveLink roots apart key named q
     made_where q listed = by (dir_from roots patch q listed)
       where
-        above_it : (p : Path) → is_listed q (above roots p) ≡ true → ComesAs p → (is_under q source ≡ true) ⊎ IsAboveLink roots apart key named q
-        above_it p e (as_source is) = inl (above_source p q (ap (λ x. is_under x source) is ∙ under-self source) e)
-        above_it p e (as_copy c) = inl (above_source p q (ap (λ x. is_under x source) c.is ∙ is_under_source c.origin) e)
-        above_it p e (as_link is) = inr (above_link roots apart key named q (sym (ap (λ x. is_listed q (above roots x)) is) ∙ e))
+        above_it : (p : Path) → is_listed q (above roots p) ≡ true → (is_under p source ≡ true) ⊎ (p ≡ link_path roots key) → (is_under q source ≡ true) ⊎ IsAboveLink roots apart key named q
+        above_it p e (inl under) = inl (above_source p q under e)
+        above_it p e (inr is) = inr (above_link roots apart key named q (sym (ap (λ x. is_listed q (above roots x)) is) ∙ e))
 
         by : (is_listed q (flat_map (above roots) (coming_paths patch)) ≡ true) ⊎ (is_listed q patch.dirs ≡ true) → (is_under q source ≡ true) ⊎ IsAboveLink roots apart key named q
-        by (inl made) = let found = found-flat_map (above roots) (coming_paths patch) q made in above_it found.0 found.2 (comes_as found.0 found.1)
+        by (inl made) = let found = found-flat_map (above roots) (coming_paths patch) q made in above_it found.0 found.2 (source_or_link found.0 (comes_as found.0 found.1))
         by (inr own) = elim (dir_comes q own) [
           | inl is ↦ inl (ap (λ x. is_under x source) is ∙ under-self source)
           | inr c ↦ inl (ap (λ x. is_under x source) c.is ∙ is_under_source c.origin)
@@ -297,10 +304,9 @@ module _ (roots : Roots) (apart : AreApart roots) (key : Key) (named : is_key ke
           (ap (λ b. b || list_any (λ root. is_below p root && is_dir (node_at tree root)) (roots.modules ∷ roots.boot ∷ []))
           (both_true (ap (λ x. is_below x roots.src) (under-split p source under) ∙ below_src (drop (length source) p)) room.src))
 
-      rooted : (p : Path) → ComesAs p → is_rooted roots tree p ≡ true
-      rooted p (as_source is) = source_rooted p (ap (λ x. is_under x source) is ∙ under-self source)
-      rooted p (as_copy c) = source_rooted p (ap (λ x. is_under x source) c.is ∙ is_under_source c.origin)
-      rooted p (as_link is) =
+      rooted : (p : Path) → (is_under p source ≡ true) ⊎ (p ≡ link_path roots key) → is_rooted roots tree p ≡ true
+      rooted p (inl under) = source_rooted p under
+      rooted p (inr is) =
           ap (λ b. b || list_any (λ root. is_below p root && is_dir (node_at tree root)) (roots.src ∷ roots.modules ∷ roots.boot ∷ []))
           (both_true (ap (λ x. is_below x roots.dkms) is ∙ link_below roots apart key named) room.dkms)
 
@@ -319,7 +325,7 @@ module _ (roots : Roots) (apart : AreApart roots) (key : Key) (named : is_key ke
         puts = subst (AllByRecursion (IsFitPut roots patch tree)) (sym (puts_are roots key from whole))
             (all-append (IsFitPut roots patch tree) (map (copy_at roots key from whole) leaves) (link_put roots key ∷ [])
             (all-map (IsFitPut roots patch tree) (copy_at roots key from whole) leaves (all_listed (λ o. IsFitPut roots patch tree (copy_at roots key from whole o)) leaves copy_fits)) (link_fits, tt));
-        rooted = all_listed (λ p. is_rooted roots tree p ≡ true) (coming_paths patch) (λ p listed. rooted p (comes_as p listed));
+        rooted = all_listed (λ p. is_rooted roots tree p ≡ true) (coming_paths patch) (λ p listed. rooted p (source_or_link p (comes_as p listed)));
         counted = puts_counted few;
       }
 
