@@ -2,6 +2,7 @@ mod AddLaws
 mod AddRun
 mod CommitPatch
 mod DoesAdd
+pub mod PrepareCopy
 mod PrepareLaws
 mod ScriptLaws
 pub mod StageLaws

@@ -266,11 +266,21 @@ module _ (met : List Met) (i : ℕ) (entry : Met) (within : i < length met) (is 
   count_more : length (leaves_met (take i met)) + length (leaves_met (entry ∷ [])) ≡ length (leaves_met (take (i + 1) met))
   count_more = omega (arith, ap length leaves_more, length-append (leaves_met (take i met)) (leaves_met (entry ∷ [])))
 
+-- where the same stands at each path, the same nodes are copied
+pub nodes_agree : (a b : Tree) (met : List Met) → AllByRecursion (λ (e : Met). node_at a e.path ≡ node_at b e.path) met → nodes_met met a ≡ nodes_met met b
+nodes_agree a b [] same = refl
+nodes_agree a b (entry ∷ met) same = by (is_leaf_kind entry.kind) (ap (λ (at : Option Node). unwrap_or at node.Dir) same.0) (nodes_agree a b met same.1)
+  where
+    by : (leaf : _) → node_there a entry.path ≡ node_there b entry.path → nodes_met met a ≡ nodes_met met b
+        → map (λ (e : Met). node_there a e.path) (cond leaf (entry ∷ leaves_met met) (leaves_met met)) ≡ map (λ (e : Met). node_there b e.path) (cond leaf (entry ∷ leaves_met met) (leaves_met met))
+    by true there later = (λ i. there i ∷ later i)
+    by false there later = later
+
 -- what isn't private isn't aside
-own_aside : (roots : Roots) (path : Path) → is_private roots path ≡ false → is_aside roots path ≡ false
+pub own_aside : (roots : Roots) (path : Path) → is_private roots path ≡ false → is_aside roots path ≡ false
 own_aside roots path own = ap (λ b. b && not (is_under path (intent_path roots))) own
 
-src_kept : (roots : Roots) → AreApart roots → is_aside roots roots.src ≡ false
+pub src_kept : (roots : Roots) → AreApart roots → is_aside roots roots.src ≡ false
 src_kept roots apart = root_aside roots apart roots.src (at_1 roots.dkms roots.src (roots.modules ∷ roots.boot ∷ []))
 
 module _ (met : List Met) (i : ℕ) (before between : Txn) (old mid : State) (apart : AreApart before.roots) (standing : ForSome old.tree (λ tree. All (StandsAsMet before.roots tree) met))
@@ -316,8 +326,4 @@ module _ (met : List Met) (i : ℕ) (before between : Txn) (old mid : State) (ap
           same_nodes : (tree now : Tree) → old.tree ≡ Some tree → IsSameBut (is_aside before.roots) tree now → nodes_met (entry ∷ []) now ≡ nodes_met (entry ∷ []) tree
           same_nodes tree now told same =
               let stood = subst (StandsAsMet before.roots tree) (sym is) (All-get_or (StandsAsMet before.roots tree) met i entry within (standing tree told)) in
-              by (is_leaf_kind entry.kind) (ap (λ (at : Option Node). unwrap_or at node.Dir) (same entry.path (own_aside before.roots entry.path stood.own)))
-            where
-              by : (leaf : _) → node_there now entry.path ≡ node_there tree entry.path → map (λ (e : Met). node_there now e.path) (cond leaf (entry ∷ []) []) ≡ map (λ (e : Met). node_there tree e.path) (cond leaf (entry ∷ []) [])
-              by true there = ap (λ at. at ∷ []) there
-              by false there = refl
+              nodes_agree now tree (entry ∷ []) (same entry.path (own_aside before.roots entry.path stood.own), tt)

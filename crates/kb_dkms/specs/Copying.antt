@@ -1,5 +1,5 @@
 -- A directory that is copied: what is staged of it, and the paths that it is copied to. This project's own.
-use Rattle.std.specs.Prelude.{◌≡◌, ℕ, ◌+◌, false, List, [], ◌∷◌, ◌++◌, length, drop, map, filter, unwrap_or, Option, Some, Result, OnOk}
+use Rattle.std.specs.Prelude.{◌≡◌, ℕ, ◌+◌, false, List, [], ◌∷◌, ◌++◌, length, drop, map, filter, unwrap_or, Option, Some, None, Result, OnOk}
 use Rattle.std.specs.Option.{ForSome}
 use Rattle.kb_world.specs.Path.{Path, is_under}
 use Rattle.kb_world.specs.Public.{is_private, staging_path}
@@ -16,6 +16,7 @@ use Rattle.kb_changes.specs.declared.patch_paths.PatchPaths.{PatchPaths}
 use Rattle.kb_machine.specs.Aside.{IsSameBut}
 use Rattle.kb_intent.specs.Txn.{StaysAside, AreStagedFor}
 use Rattle.kb_intent.specs.declared.txn.Txn.{Txn}
+use Rattle.kb_dkms.specs.AddTree.{met_below, too_many}
 use Rattle.kb_dkms.specs.declared.places.Places.{Places}
 
 -- ---- what was met
@@ -31,6 +32,11 @@ node_there tree path = unwrap_or (node_at tree path) node.Dir
 -- what stands where they were met
 abbrev pub nodes_met : List Met → Tree → List Node
 nodes_met met tree = map (λ entry. node_there tree entry.path) (leaves_met met)
+
+-- All that lies below the directory was met.
+pub record IsAllMet (from : Path) (whole : Tree) (met : List Met) : Type 0 where
+  pub is : met ≡ met_below from whole
+  pub all : too_many from whole ≡ None
 
 -- It still stands there, and isn't private.
 pub record StandsAsMet (roots : Roots) (tree : Tree) (entry : Met) : Type 0 where

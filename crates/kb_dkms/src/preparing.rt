@@ -15,8 +15,8 @@ use kb_intent::{Change, PatchPaths, RootName, Txn};
 use kb_world::{Request, Sequence, Stop, World};
 use std::alloc::{AllocError, Global};
 
-// Adds the changes of a patch with these paths, and the script behind them.
-fn add_changes(
+/// Adds the changes of a patch with these paths, and the script behind them.
+pub(crate) fn add_changes(
     alloc: Global,
     txn: &mut Txn,
     paths: &PatchPaths,

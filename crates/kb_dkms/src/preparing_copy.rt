@@ -1,11 +1,21 @@
 // The transaction of an add that copies a directory is put together.
-ghost use Rattle.std.specs.Prelude.{◌≡◌, ◌++◌, true, [], ◌∷◌, IfOk};
+ghost use Rattle.std.specs.Prelude.{◌≡◌, ◌∷◌, true, IfOk};
+ghost use Rattle.std.specs.Option.{ForSome};
+ghost use Rattle.kb_world.specs.Layout.{whole_tree};
+ghost use Rattle.kb_world.specs.Roots.{AreApart};
+ghost use Rattle.kb_world.specs.Steps.{add_tree_patch};
+ghost use Rattle.kb_world.specs.Tree.{node_at, is_dir};
+ghost use Rattle.kb_dkms.specs.Commit.{Prepares};
 ghost use Rattle.kb_dkms.specs.Copying as copying;
+ghost use Rattle.kb_dkms.specs.Places.{package_places};
 
 use crate::places::Places;
-use kb_intent::PatchPaths;
+use crate::preparing::add_changes;
+use crate::scripts::Source;
+use crate::staging::stage_all_met;
+use kb_intent::{PatchPaths, RootName, Txn};
 use kb_walk::Met;
-use kb_world::{Kind, Path, Sequence};
+use kb_world::{Kind, Path, Request, Sequence, Stop, World};
 use std::alloc::{AllocError, Global};
 
 /// A directory that is copied, and what was met below it.
@@ -76,4 +86,49 @@ fn copy_paths(
         dirs: dirs_of(alloc, &places.source, copied)?,
         puts,
     })
+}
+
+/// Begins a transaction of the job, stages a copy of what was met and the link of the package, and
+/// adds the changes that bring them to their places, with its script behind them.
+pub(crate) fn prepare_copy<W: World>(
+    alloc: Global,
+    world: &mut W,
+    source: Source<'_>,
+    copied: Copied<'_>,
+    request: Option<Request>,
+) -> Result<Txn, Stop>
+    requires apart { AreApart source.job.now.host.roots }
+    requires places { source.places.now
+        ≡ package_places source.job.now.host.roots source.key.now }
+    requires root { ForSome (W.state world.old).tree (λ tree.
+        is_dir (node_at tree source.job.now.host.roots.dkms) ≡ true) }
+    requires src { ForSome (W.state world.old).tree (λ tree.
+        is_dir (node_at tree source.job.now.host.roots.src) ≡ true) }
+    requires met { ForSome (W.state world.old).tree (λ tree. copying.IsAllMet copied.from.now
+        (whole_tree source.job.now.host.roots tree) copied.met.now) }
+    ensures { Prepares source.entry.job.now.host.roots
+        (λ tree. add_tree_patch source.entry.job.now.host.roots source.entry.key.now
+            copied.entry.from.now (whole_tree source.entry.job.now.host.roots tree)) request
+        (W.state world.old) (W.state world.new) result }
+{
+    let mut txn = match Txn::begin(alloc, world, source.job) {
+        Ok(txn) => txn,
+        Err(stop) => return Err(stop),
+    };
+    match stage_all_met(alloc, world, &mut txn, copied.met) {
+        Ok(()) => {}
+        Err(stop) => return Err(stop),
+    }
+    match txn.stage_link(alloc, world, RootName::Dkms, source.places.text.as_str()) {
+        Ok(_) => {}
+        Err(stop) => return Err(stop),
+    }
+    let paths = match copy_paths(alloc, source.places, copied) {
+        Ok(paths) => paths,
+        Err(_) => return Err(Stop::NoMemory),
+    };
+    match add_changes(alloc, &mut txn, &paths, request) {
+        Ok(()) => Ok(txn),
+        Err(_) => Err(Stop::NoMemory),
+    }
 }
