@@ -197,14 +197,14 @@ one_counted counts root_name.Boot root_name.Boot = refl
 abbrev pub AreCounted : Roots → Counts → List (Path × Node) → Type 0
 AreCounted roots counts puts = (root : RootName) → count_below counts root ≡ length (nodes_below roots root puts)
 
+pub none_counted_below : (root : RootName) → count_below none_counted root ≡ 0
+none_counted_below root_name.Dkms = refl
+none_counted_below root_name.Src = refl
+none_counted_below root_name.Modules = refl
+none_counted_below root_name.Boot = refl
+
 pub none_are_counted : (roots : Roots) (counts : Counts) → counts ≡ none_counted → AreCounted roots counts []
-none_are_counted roots counts none root = ap (λ (c : Counts). count_below c root) none ∙ by root
-  where
-    by : (root : RootName) → count_below none_counted root ≡ 0
-    by root_name.Dkms = refl
-    by root_name.Src = refl
-    by root_name.Modules = refl
-    by root_name.Boot = refl
+none_are_counted roots counts none root = ap (λ (c : Counts). count_below c root) none ∙ none_counted_below root
 
 pub counted_more : (roots : Roots) (targets : List Path) (i : ℕ) (target : Path) (root : RootName) (counts now : Counts) → i < length targets → target ≡ get_or targets i target → root ≡ root_of roots target
     → AreCounted roots counts (some_puts (take i targets)) → now ≡ one_more root counts → AreCounted roots now (some_puts (take (i + 1) targets))

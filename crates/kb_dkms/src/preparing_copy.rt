@@ -13,25 +13,22 @@ use crate::places::Places;
 use crate::preparing::add_changes;
 use crate::scripts::Source;
 use crate::staging::stage_all_met;
+use kb_conf::Conf;
 use kb_intent::{PatchPaths, RootName, Txn};
 use kb_walk::Met;
 use kb_world::{Kind, Path, Request, Sequence, Stop, World};
 use std::alloc::{AllocError, Global};
 
-/// A directory that is copied, and what was met below it.
+/// A directory that is copied to the source of a package, and the conf that was read there.
 #[derive(Clone, Copy)]
-pub(crate) struct Copied<'a> {
+pub(crate) struct Original<'a> {
+    pub(crate) source: Source<'a>,
     pub(crate) from: &'a Path,
-    pub(crate) met: &'a [Met],
+    pub(crate) conf: &'a Conf,
 }
 
 // Where a path below the directory is copied to.
-fn place_of(
-    alloc: Global,
-    source: &Path,
-    from: &Path,
-    path: &Path,
-) -> Result<Path, AllocError>
+fn place_of(alloc: Global, source: &Path, from: &Path, path: &Path) -> Result<Path, AllocError>
     ensures { IfOk result (λ place. place ≡ copying.place_copied source.now from.now path.now) }
 {
     match path.names().get(from.names().len()..) {
@@ -40,30 +37,40 @@ fn place_of(
     }
 }
 
-// The source, and each directory at its place below it.
-fn dirs_of(alloc: Global, source: &Path, copied: Copied<'_>) -> Result<Sequence<Path>, AllocError>
-    ensures { IfOk result (λ dirs. dirs ≡ source.now ∷ copying.places_copied source.now
-        copied.entry.from.now (copying.dirs_met copied.entry.met.now)) }
+// The source, and each directory that was met at its place below it.
+fn dirs_of(
+    alloc: Global,
+    source: &Path,
+    from: &Path,
+    met: &[Met],
+) -> Result<Sequence<Path>, AllocError>
+    ensures { IfOk result (λ dirs. dirs
+        ≡ source.now ∷ copying.places_copied source.now from.now (copying.dirs_met met.now)) }
 {
     let mut dirs = Sequence::new(alloc);
     dirs.push(source.clone()?)?;
-    for entry in copied.met {
+    for entry in met {
         if matches!(entry.kind, Kind::Dir) {
-            dirs.push(place_of(alloc, source, copied.from, &entry.path)?)?;
+            dirs.push(place_of(alloc, source, from, &entry.path)?)?;
         }
     }
     Ok(dirs)
 }
 
-// The places of files and links below the source.
-fn puts_of(alloc: Global, source: &Path, copied: Copied<'_>) -> Result<Sequence<Path>, AllocError>
-    ensures { IfOk result (λ puts. puts ≡ copying.places_copied source.now copied.entry.from.now
-        (copying.leaves_met copied.entry.met.now)) }
+// The places below the source of the files and links that were met.
+fn puts_of(
+    alloc: Global,
+    source: &Path,
+    from: &Path,
+    met: &[Met],
+) -> Result<Sequence<Path>, AllocError>
+    ensures { IfOk result (λ puts. puts
+        ≡ copying.places_copied source.now from.now (copying.leaves_met met.now)) }
 {
     let mut puts = Sequence::new(alloc);
-    for entry in copied.met {
+    for entry in met {
         if matches!(entry.kind, Kind::File { .. } | Kind::Link) {
-            puts.push(place_of(alloc, source, copied.from, &entry.path)?)?;
+            puts.push(place_of(alloc, source, from, &entry.path)?)?;
         }
     }
     Ok(puts)
@@ -73,17 +80,18 @@ fn puts_of(alloc: Global, source: &Path, copied: Copied<'_>) -> Result<Sequence<
 fn copy_paths(
     alloc: Global,
     places: &Places,
-    copied: Copied<'_>,
+    from: &Path,
+    met: &[Met],
 ) -> Result<PatchPaths, AllocError>
     ensures { IfOk result (λ paths. paths
-        ≡ copying.paths_copied places.now copied.entry.from.now copied.entry.met.now) }
+        ≡ copying.paths_copied places.now from.now met.now) }
 {
-    let mut puts = puts_of(alloc, &places.source, copied)?;
+    let mut puts = puts_of(alloc, &places.source, from, met)?;
     puts.push(places.link.clone()?)?;
     Ok(PatchPaths {
         drops: Sequence::new(alloc),
         wipes: Sequence::new(alloc),
-        dirs: dirs_of(alloc, &places.source, copied)?,
+        dirs: dirs_of(alloc, &places.source, from, met)?,
         puts,
     })
 }
@@ -93,29 +101,30 @@ fn copy_paths(
 pub(crate) fn prepare_copy<W: World>(
     alloc: Global,
     world: &mut W,
-    source: Source<'_>,
-    copied: Copied<'_>,
+    original: Original<'_>,
+    met: &[Met],
     request: Option<Request>,
 ) -> Result<Txn, Stop>
-    requires apart { AreApart source.job.now.host.roots }
-    requires places { source.places.now
-        ≡ package_places source.job.now.host.roots source.key.now }
+    requires apart { AreApart original.source.job.now.host.roots }
+    requires places { original.source.places.now
+        ≡ package_places original.source.job.now.host.roots original.source.key.now }
     requires root { ForSome (W.state world.old).tree (λ tree.
-        is_dir (node_at tree source.job.now.host.roots.dkms) ≡ true) }
+        is_dir (node_at tree original.source.job.now.host.roots.dkms) ≡ true) }
     requires src { ForSome (W.state world.old).tree (λ tree.
-        is_dir (node_at tree source.job.now.host.roots.src) ≡ true) }
-    requires met { ForSome (W.state world.old).tree (λ tree. copying.IsAllMet copied.from.now
-        (whole_tree source.job.now.host.roots tree) copied.met.now) }
-    ensures { Prepares source.entry.job.now.host.roots
-        (λ tree. add_tree_patch source.entry.job.now.host.roots source.entry.key.now
-            copied.entry.from.now (whole_tree source.entry.job.now.host.roots tree)) request
+        is_dir (node_at tree original.source.job.now.host.roots.src) ≡ true) }
+    requires met { ForSome (W.state world.old).tree (λ tree. copying.IsAllMet original.from.now
+        (whole_tree original.source.job.now.host.roots tree) met.now) }
+    ensures { Prepares original.entry.source.job.now.host.roots
+        (λ tree. add_tree_patch original.entry.source.job.now.host.roots original.entry.source.key.now
+            original.entry.from.now (whole_tree original.entry.source.job.now.host.roots tree)) request
         (W.state world.old) (W.state world.new) result }
 {
+    let source = original.source;
     let mut txn = match Txn::begin(alloc, world, source.job) {
         Ok(txn) => txn,
         Err(stop) => return Err(stop),
     };
-    match stage_all_met(alloc, world, &mut txn, copied.met) {
+    match stage_all_met(alloc, world, &mut txn, met) {
         Ok(()) => {}
         Err(stop) => return Err(stop),
     }
@@ -123,7 +132,7 @@ pub(crate) fn prepare_copy<W: World>(
         Ok(_) => {}
         Err(stop) => return Err(stop),
     }
-    let paths = match copy_paths(alloc, source.places, copied) {
+    let paths = match copy_paths(alloc, source.places, original.from, met) {
         Ok(paths) => paths,
         Err(_) => return Err(Stop::NoMemory),
     };

@@ -27,6 +27,7 @@ use Rattle.kb_changes.specs.Changes.{Staged, staged_below}
 use Rattle.kb_changes.specs.Counts.{count_below, none_counted}
 use Rattle.kb_changes.specs.declared.change.RootName.{RootName}
 use Rattle.kb_changes.specs.declared.change.RootName.TheVariants as root_name
+use Rattle.kb_changes.proofs.PathsLaws.{none_counted_below}
 use Rattle.kb_again.proofs.RootLaws.{same_last}
 use Rattle.std.proofs.lemmas.Bool.{or_left}
 use Rattle.kb_machine.specs.Aside.{WorksAside}
@@ -48,12 +49,6 @@ none_below root_name.Dkms = refl
 none_below root_name.Src = refl
 none_below root_name.Modules = refl
 none_below root_name.Boot = refl
-
-none_counted_below : (root : RootName) → count_below none_counted root ≡ 0
-none_counted_below root_name.Dkms = refl
-none_counted_below root_name.Src = refl
-none_counted_below root_name.Modules = refl
-none_counted_below root_name.Boot = refl
 
 -- what is taken away isn't there
 module _ (txn : Txn) (apart : AreApart txn.roots) (empty : txn.staged ≡ none_counted) (tree : Tree) where
