@@ -26,7 +26,7 @@ use Rattle.kb_world.proofs.OrderLaws.{in_order_rises, any-found, any-of}
 use Rattle.kb_world.proofs.PatchLaws.{all_dropped-at, all_wiped-at, with_directories-at, with_nodes-at, patched-dir}
 use Rattle.kb_changes.specs.Change.{root_path, staged_path, do_change, done}
 use Rattle.kb_changes.specs.Changes.{numbered_puts, drops_of, scratches, changes_of, nodes_below, staged_below, nodes_of, HasStaged}
-use Rattle.kb_changes.specs.Fit.{is_rooted, IsInOwnRoot, IsFitDir, IsFitPut, IsFit}
+use Rattle.kb_changes.specs.Fit.{is_rooted, IsInOwnRoot, IsFitPut, IsFit}
 use Rattle.kb_changes.specs.Valid.{written_roots}
 use Rattle.kb_changes.specs.declared.change.Change.{Change}
 use Rattle.kb_changes.specs.declared.change.Change.TheVariants.{Dir, Drop, DropDir, Wipe}
@@ -96,6 +96,20 @@ any_so p q paths so e = let found = any-found p paths e in any-of q paths found.
 dir_no_leaf : (at : Option Node) → is_dir at ≡ true → is_leaf at ≡ false
 dir_no_leaf None d = refl
 dir_no_leaf (Some at) d = ap (λ b. true && not b) d
+
+-- nothing is put where a directory is made
+no_target : (roots : Roots) (patch : Patch) (tree : Tree) → IsFit roots patch tree → (q : Path) → is_listed q (dirs_of roots patch) ≡ true → put_at q patch.puts ≡ None
+no_target roots patch tree fit q listed =
+    no_put (λ p. is_listed p (dirs_of roots patch) ≡ true) q listed patch.puts
+    (AreAll (IsFitPut roots patch tree) (λ (put : Path × Node). is_listed put.0 (dirs_of roots patch) ≡ true → ⊥) (λ put f e. untrue (sym f.no_dir ∙ e)) patch.puts fit.puts)
+
+-- a directory that is made stands then, unless it is one that would go
+pub dir_made : (roots : Roots) (patch : Patch) (tree : Tree) → IsFit roots patch tree → (q : Path) → is_listed q (dirs_of roots patch) ≡ true → is_listed q (emptied_of roots patch) ≡ false
+    → is_dir (node_at (patched roots patch (public_tree roots tree)) q) ≡ true
+dir_made roots patch tree fit q listed stays =
+    ap is_dir (patched-dir roots patch (public_tree roots tree) q listed
+    (ap (λ at. is_leaf (cond (list_any (is_under q) patch.wipes || is_listed q patch.drops && is_leaf at) None at)) (shown roots tree q (fit.dirs q listed).opens) ∙ (fit.dirs q listed).free)
+    (no_target roots patch tree fit q listed) stays)
 
 module _ (roots : Roots) (apart : AreApart roots) (script : Script) (patch : Patch) (tree : Tree) (fit : IsFit roots patch tree) (staged : HasStaged roots (nodes_of roots patch) tree) where
   abbrev dirs : List Path
@@ -171,15 +185,10 @@ module _ (roots : Roots) (apart : AreApart roots) (script : Script) (patch : Pat
           let found = listed_root roots root listed in
           no_wipe root (λ w own opens below under. untrue (sym (root-over roots apart found.0 own w below) ∙ ap (λ r. is_under r w) (sym found.1) ∙ under))
 
-  no_target : (q : Path) → is_listed q dirs ≡ true → put_at q patch.puts ≡ None
-  no_target q listed =
-      no_put (λ p. is_listed p dirs ≡ true) q listed patch.puts
-      (AreAll (IsFitPut roots patch tree) (λ (put : Path × Node). is_listed put.0 dirs ≡ true → ⊥) (λ put f e. untrue (sym f.no_dir ∙ e)) patch.puts fit.puts)
-
   free : (q : Path) → is_listed q dirs ≡ true → is_leaf (node_at left q) ≡ false
   free q listed =
       ap is_leaf (left-at q ∙ ap (λ b. cond b None (cond (is_listed q (drops_of patch) && is_leaf (node_at tree q)) None (node_at tree q))) (list_any-append (is_under q) patch.wipes (scratches roots emptied))
-      ∙ ap (λ b. cond (list_any (is_under q) patch.wipes || list_any (is_under q) (scratches roots emptied)) None (cond (b && is_leaf (node_at tree q)) None (node_at tree q))) (drops_listed patch q (no_target q listed)))
+      ∙ ap (λ b. cond (list_any (is_under q) patch.wipes || list_any (is_under q) (scratches roots emptied)) None (cond (b && is_leaf (node_at tree q)) None (node_at tree q))) (drops_listed patch q (no_target roots patch tree fit q listed)))
       ∙ by (list_any (is_under q) patch.wipes) (list_any (is_under q) (scratches roots emptied)) (is_listed q patch.drops && is_leaf (node_at tree q)) (fit.dirs q listed).free
     where
       by : (a b c : Bool) → is_leaf (cond (a || c) None (node_at tree q)) ≡ false → is_leaf (cond (a || b) None (cond c None (node_at tree q))) ≡ false
@@ -359,13 +368,3 @@ module _ (roots : Roots) (apart : AreApart roots) (script : Script) (patch : Pat
       (all_listed (λ path. (q : Path) → is_under q path ≡ true → IsNeverForeign roots q) (scratches roots emptied)
       (λ path listed q under. private-own roots q (scratch_private roots emptied q (any-of (is_under q) (scratches roots emptied) path under listed)))))
       ∙ all_dropped-foreign roots (drops_of patch) tree drops_open
-
-  -- a directory that is made stands then, unless it is one that would go
-  pub made_done : (q : Path) → is_listed q (dirs_of roots patch) ≡ true → is_listed q (emptied_of roots patch) ≡ false → is_dir (node_at (done roots script (changes_of roots patch) tree) q) ≡ true
-  made_done q listed stays =
-      ap is_dir (sym (shown roots (done roots script (changes_of roots patch) tree) q fits.opens) ∙ ap (λ t. node_at t q) patch_done
-      ∙ patched-dir roots patch (public_tree roots tree) q listed
-      (ap (λ at. is_leaf (cond (list_any (is_under q) patch.wipes || is_listed q patch.drops && is_leaf at) None at)) (shown roots tree q fits.opens) ∙ fits.free) (no_target q listed) stays)
-    where
-      fits : IsFitDir roots patch tree q
-      fits = fit.dirs q listed

@@ -8,16 +8,13 @@ use Rattle.std.specs.Cmp.{first_so, second_so}
 use Rattle.std.specs.Cmp.Derive.{both_true}
 use Rattle.kb_world.specs.Names.{is_word, is_version, begins_alphanumeric}
 use Rattle.kb_world.specs.Path.{Path, is_under}
-use Rattle.kb_world.specs.Patch.{Patch, above, directories_to, dirs_of, emptied_of, in_order, is_listed}
+use Rattle.kb_world.specs.Patch.{Patch, above, directories_to, dirs_of, emptied_of, in_order, is_listed, patched}
 use Rattle.kb_world.specs.Public.{IsAlwaysPublic, public_tree}
 use Rattle.kb_world.specs.Roots.{AreApart, is_below}
-use Rattle.kb_world.specs.Script.{Script}
-use Rattle.kb_world.specs.Steps.{add_blocked, add_tree_patch, add_tree_step}
+use Rattle.kb_world.specs.Steps.{add_blocked, add_tree_patch}
 use Rattle.kb_world.specs.Store.{is_key, link_path, source_path}
 use Rattle.kb_world.specs.Tree.{Tree, node_at, is_dir, is_leaf, IsFormed}
 use Rattle.kb_world.specs.TreeLaws.{same_path, same_path-true, same_path-refl}
-use Rattle.kb_world.specs.declared.child.Area.TheVariants as areas
-use Rattle.kb_world.specs.declared.child.Request.{Request}
 use Rattle.kb_world.specs.declared.job.Key.{Key}
 use Rattle.kb_world.specs.declared.roots.Roots.{Roots}
 use Rattle.kb_world.specs.declared.tree.Node.{Node}
@@ -28,16 +25,13 @@ use Rattle.kb_world.proofs.NameLaws.{known, begins-append}
 use Rattle.kb_world.proofs.OrderLaws.{tree_rises, any-found}
 use Rattle.kb_world.proofs.PathLaws.{under-append, under-self, under-split, elsewhere, by_test}
 use Rattle.kb_world.proofs.PublicLaws.{written_apart, in_src}
-use Rattle.kb_changes.specs.Change.{done}
-use Rattle.kb_changes.specs.Changes.{changes_of, nodes_of, HasStaged}
-use Rattle.kb_changes.specs.Fit.{IsInOwnRoot, IsPlacedPath, IsFitPut, IsFit, MayStand, coming_paths, is_rooted, IsFitRequest, idle}
-use Rattle.kb_changes.specs.Valid.{all_differ, is_initrd, is_valid}
-use Rattle.kb_changes.specs.declared.change.Change.TheVariants.{Run}
+use Rattle.kb_changes.specs.Fit.{IsInOwnRoot, IsPlacedPath, IsFitPut, IsFit, MayStand, coming_paths, is_rooted}
+use Rattle.kb_changes.specs.Valid.{all_differ, is_initrd}
 use Rattle.kb_changes.proofs.PatchParents.{not_true, or_right, either, behind, below-append, directories-over, found-flat_map, dir_from}
 use Rattle.kb_changes.proofs.PatchPlaces.{under-trans, found-filter}
 use Rattle.kb_changes.proofs.PatchOwn.{own_placed, own_no_initrd, dirs_own}
-use Rattle.kb_changes.proofs.PatchDone.{all_listed, patch_done, made_done}
-use Rattle.kb_changes.proofs.PatchValid.{all_of, patch_is_valid}
+use Rattle.kb_changes.proofs.PatchDone.{all_listed, dir_made}
+use Rattle.kb_changes.proofs.PatchValid.{all_of}
 use Rattle.kb_changes.proofs.PatchMet.{link_below, link_own, IsAboveLink, above_link, link_longer, unblocked_leafless}
 use Rattle.kb_changes.proofs.TreePatch.{rising-filter, differ-map, differ-more, found-map, some_is, copied_paths, copied_dirs, copied_leaves, copy_path, copy_at, link_put, copied_stands, IsCopied, dirs_are, puts_are, targets_are, copied, copied_once}
 
@@ -329,27 +323,14 @@ module _ (roots : Roots) (apart : AreApart roots) (key : Key) (named : is_key ke
         counted = puts_counted few;
       }
 
-    -- ---- its changes
+    -- ---- what it makes
 
-    -- they are valid, with requests behind them that may change nothing
-    pub add_tree_valid : suc (length (copied_paths from whole)) < 2 ^ 64 → (requests : List Request) → AllByRecursion (λ (request : Request). request.area ≡ areas.Nothing) requests
-        → is_valid roots (changes_of roots (add_tree_patch roots key from whole) ++ map Run requests) ≡ true
-    add_tree_valid few requests idles =
-        patch_is_valid roots apart patch (add_tree_stands few) requests
-        (AreAll (λ (request : Request). request.area ≡ areas.Nothing) (IsFitRequest roots patch) (λ request nothing. idle nothing) requests idles)
-
-    module _ (script : Script) (tree : Tree) (fit : IsFit roots (add_tree_patch roots key from whole) tree) (staged : HasStaged roots (nodes_of roots (add_tree_patch roots key from whole)) tree) where
-      -- doing them is the step
-      pub add_tree_done : public_tree roots (done roots script (changes_of roots (add_tree_patch roots key from whole)) tree) ≡ add_tree_step roots key from whole (public_tree roots tree)
-      unfolding add_tree_step
-      add_tree_done = patch_done roots apart script patch tree fit staged
-
-      -- and then the version's source is a directory
-      pub source_done : is_dir (node_at (done roots script (changes_of roots (add_tree_patch roots key from whole)) tree) (source_path roots key)) ≡ true
-      source_done = made_done roots apart script patch tree fit staged source made (listed-reverse source (in_order []) ∙ listed-in_order source [])
-        where
-          made : is_listed source (dirs_of roots patch) ≡ true
-          made =
-              listed-in_order source (flat_map (above roots) (coming_paths patch) ++ patch.dirs) ∙ listed-append source (flat_map (above roots) (coming_paths patch)) patch.dirs
-              ∙ or_right (is_listed source (flat_map (above roots) (coming_paths patch))) (is_listed source patch.dirs)
-              (ap (is_listed source) (dirs_are roots key from whole) ∙ ap (λ b. b || is_listed source (map copy (copied_dirs from whole))) (same_path-refl source))
+    -- once it is done the version's source is a directory
+    pub source_made : (tree : Tree) → IsFit roots (add_tree_patch roots key from whole) tree → is_dir (node_at (patched roots (add_tree_patch roots key from whole) (public_tree roots tree)) (source_path roots key)) ≡ true
+    source_made tree fit = dir_made roots patch tree fit source made (listed-reverse source (in_order []) ∙ listed-in_order source [])
+      where
+        made : is_listed source (dirs_of roots patch) ≡ true
+        made =
+            listed-in_order source (flat_map (above roots) (coming_paths patch) ++ patch.dirs) ∙ listed-append source (flat_map (above roots) (coming_paths patch)) patch.dirs
+            ∙ or_right (is_listed source (flat_map (above roots) (coming_paths patch))) (is_listed source patch.dirs)
+            (ap (is_listed source) (dirs_are roots key from whole) ∙ ap (λ b. b || is_listed source (map copy (copied_dirs from whole))) (same_path-refl source))
