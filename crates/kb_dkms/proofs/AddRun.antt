@@ -25,7 +25,7 @@ use Rattle.kb_dkms.proofs.AddLaws.{are_public, add_keeps_source}
 use Rattle.kb_dkms.proofs.CommitPatch.{CanCommit, CanRunBehind, CommitsPatch, run_asked}
 
 -- a script is run where there is one
-script_is_asked : (host : Host) (script : Script) (key : Key) (words : Option (List ℕ)) → run_script host.roots script (host_given host) key (codes "POST_ADD") words ≡ run_asked host.roots script (codes "POST_ADD") (script_asked host key words)
+pub script_is_asked : (host : Host) (script : Script) (key : Key) (words : Option (List ℕ)) → run_script host.roots script (host_given host) key (codes "POST_ADD") words ≡ run_asked host.roots script (codes "POST_ADD") (script_asked host key words)
 script_is_asked host script key None = refl
 script_is_asked host script key (Some words) = refl
 

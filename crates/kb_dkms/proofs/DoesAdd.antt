@@ -13,7 +13,7 @@ use Rattle.kb_world.specs.Roots.{AreApart}
 use Rattle.kb_world.specs.State.{State}
 use Rattle.kb_world.specs.Damage.{hurt}
 use Rattle.kb_world.specs.Store.{is_key, module_path, version_path, link_path, source_path}
-use Rattle.kb_world.specs.Steps.{blocking}
+use Rattle.kb_world.specs.Steps.{blocking, add_blocked}
 use Rattle.kb_world.specs.Public.{intent_path, public_tree}
 use Rattle.kb_world.specs.Layout.{whole_tree}
 use Rattle.kb_world.specs.Outcome.{unless, warn, reads, ◌then◌}
@@ -52,7 +52,7 @@ kernel_named host good kernel is =
 
 -- ---- when the link can be made
 
-nothing_stands : (key : Key) (link : Path) (tree : Tree) → standing key link tree ≡ None → node_at tree link ≡ None
+pub nothing_stands : (key : Key) (link : Path) (tree : Tree) → standing key link tree ≡ None → node_at tree link ≡ None
 nothing_stands key link tree e = by_case (node_at tree link) refl
   where
     by_case : (at : Option Node) → node_at tree link ≡ at → node_at tree link ≡ None
@@ -64,11 +64,11 @@ pub is_unadded : (roots : Roots) (key : Key) (tree : Tree) → is_dir (node_at t
     → is_dir (node_at tree (source_path roots key)) ≡ true → IsUnadded roots key tree
 is_unadded roots key tree root bare none source = record { root = root; bare = bare; free = nothing_stands key (link_path roots key) tree none; source = source }
 
-nothing_first : {A : Type 0} (a b : Option A) → option_or a b ≡ None → a ≡ None
+pub nothing_first : {A : Type 0} (a b : Option A) → option_or a b ≡ None → a ≡ None
 nothing_first None b e = refl
 nothing_first (Some x) b e = e
 
-nothing_second : {A : Type 0} (a b : Option A) → option_or a b ≡ None → b ≡ None
+pub nothing_second : {A : Type 0} (a b : Option A) → option_or a b ≡ None → b ≡ None
 nothing_second None b e = e
 nothing_second (Some x) b e = let impossible : Some x ≡ None = e in cc
 
@@ -79,13 +79,13 @@ unblocked path tree e = by_case (blocking path tree) refl
     by_case None is = is
     by_case (Some x) is = let impossible : Some (refusal.Damaged x) ≡ None = sym (ap (option_map refusal.Damaged) is) ∙ e in cc
 
+pub add_unblocked : (roots : Roots) (key : Key) (tree : Tree) → place_blocked (package_places roots key) tree ≡ None → add_blocked roots key tree ≡ None
+add_unblocked roots key tree none =
+    ap (λ first. option_or first (blocking (version_path roots key) tree)) (unblocked (module_path roots key) tree (nothing_first _ (blocked_by (version_path roots key) tree) none))
+    ∙ unblocked (version_path roots key) tree (nothing_second (blocked_by (module_path roots key) tree) _ none)
+
 pub can_add : (roots : Roots) (key : Key) (tree : Tree) → IsUnadded roots key tree → place_blocked (package_places roots key) tree ≡ None → CanAdd roots key tree
-can_add roots key tree unadded none = record {
-  unadded = unadded;
-  unblocked =
-      ap (λ first. option_or first (blocking (version_path roots key) tree)) (unblocked (module_path roots key) tree (nothing_first _ (blocked_by (version_path roots key) tree) none))
-      ∙ unblocked (version_path roots key) tree (nothing_second (blocked_by (module_path roots key) tree) _ none);
-}
+can_add roots key tree unadded none = record { unadded = unadded; unblocked = add_unblocked roots key tree none }
 
 -- where a conf was loaded its directory stands
 pub loaded_dir : (dir : Path) (key : Option Key) (given : Given) (tree : Tree) (conf : Conf) → loaded_conf dir key given tree ≡ Ok conf → is_dir (node_at tree dir) ≡ true

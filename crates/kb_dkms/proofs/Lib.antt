@@ -1,7 +1,9 @@
 mod AddLaws
 mod AddRun
+pub mod AddTreeRun
 mod CommitPatch
 mod DoesAdd
+pub mod DoesAddTree
 pub mod PrepareCopy
 mod PrepareLaws
 mod ScriptLaws

@@ -1,10 +1,14 @@
--- A directory that is copied: what is staged of it, and the paths that it is copied to. This project's own.
-use Rattle.std.specs.Prelude.{◌≡◌, ℕ, ◌+◌, false, List, [], ◌∷◌, ◌++◌, length, drop, map, filter, unwrap_or, Option, Some, None, Result, OnOk}
+-- A directory that is copied to a package's source: when that can be, what is staged of it, and the paths that it is copied
+-- to. This project's own.
+use Rattle.std.specs.Prelude.{◌≡◌, ℕ, ◌+◌, true, false, List, [], ◌∷◌, ◌++◌, length, drop, map, filter, unwrap_or, Option, Some, None, Result, OnOk}
 use Rattle.std.specs.Option.{ForSome}
 use Rattle.kb_world.specs.Path.{Path, is_under}
-use Rattle.kb_world.specs.Public.{is_private, staging_path}
+use Rattle.kb_world.specs.Public.{intent_path, is_private, staging_path}
 use Rattle.kb_world.specs.State.{State}
-use Rattle.kb_world.specs.Tree.{Tree, node_at, kind_of}
+use Rattle.kb_world.specs.Steps.{add_blocked}
+use Rattle.kb_world.specs.Store.{link_path, source_path}
+use Rattle.kb_world.specs.Tree.{Tree, node_at, is_dir, kind_of}
+use Rattle.kb_world.specs.declared.job.Key.{Key}
 use Rattle.kb_world.specs.declared.roots.Roots.{Roots}
 use Rattle.kb_world.specs.declared.stop.Stop.{Stop}
 use Rattle.kb_world.specs.declared.tree.Node.{Node}
@@ -18,6 +22,18 @@ use Rattle.kb_intent.specs.Txn.{StaysAside, AreStagedFor}
 use Rattle.kb_intent.specs.declared.txn.Txn.{Txn}
 use Rattle.kb_dkms.specs.AddTree.{met_below, too_many}
 use Rattle.kb_dkms.specs.declared.places.Places.{Places}
+
+-- ---- when the transaction can be made
+
+-- No journal stands, the roots of packages and of sources are there, nothing stands at the package's source or its link,
+-- and nothing where the link's directories are needed.
+pub record CanCopy (roots : Roots) (key : Key) (tree : Tree) : Type 0 where
+  pub root : is_dir (node_at tree roots.dkms) ≡ true
+  pub src : is_dir (node_at tree roots.src) ≡ true
+  pub bare : node_at tree (intent_path roots) ≡ None
+  pub no_source : node_at tree (source_path roots key) ≡ None
+  pub no_link : node_at tree (link_path roots key) ≡ None
+  pub unblocked : add_blocked roots key tree ≡ None
 
 -- ---- what was met
 

@@ -21,8 +21,8 @@ use kb_intent::commit;
 use kb_world::{Bytes, Job, Key, Report, Stop, Text, World};
 use std::alloc::{AllocError, Global};
 
-// Adds a warning for each name of a conf that isn't used.
-fn warn_unused(alloc: Global, err: &mut Bytes, names: &[Text]) -> Result<(), AllocError>
+/// Adds a warning for each name of a conf that isn't used.
+pub(crate) fn warn_unused(alloc: Global, err: &mut Bytes, names: &[Text]) -> Result<(), AllocError>
     ensures { OnOk result (err.new ≡ err.old ++ action.unused_lines names.now) }
 {
     for name in names {

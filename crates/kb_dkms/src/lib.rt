@@ -2,6 +2,7 @@
 #![tactic(auto)]
 
 mod adding;
+mod adding_tree;
 mod copying;
 mod places;
 mod preparing;
@@ -10,3 +11,4 @@ mod scripts;
 mod staging;
 
 pub use adding::add;
+pub use adding_tree::add_tree;
