@@ -30,7 +30,7 @@ use std::alloc::Global;
 fn copy_and_run<W: World>(
     alloc: Global,
     world: &mut W,
-    original: Original<'_>,
+    original: Original<'_, '_>,
     met: &[Met],
     report: &mut Report,
 ) -> Result<(), Stop>
@@ -73,7 +73,7 @@ fn copy_and_run<W: World>(
 fn add_copy<W: World>(
     alloc: Global,
     world: &mut W,
-    original: Original<'_>,
+    original: Original<'_, '_>,
     report: &mut Report,
 ) -> Result<(), Stop>
     requires named { IsTrue (is_key original.source.key.now) }
@@ -150,14 +150,13 @@ pub fn add_tree<W: World>(
     if *from == places.source {
         return add(alloc, world, job, report, &conf.key);
     }
-    let source = Source {
-        job,
-        key: &conf.key,
-        given: &given,
-        places: &places,
-    };
     let original = Original {
-        source,
+        source: Source {
+            job,
+            key: &conf.key,
+            given: &given,
+            places: &places,
+        },
         from,
         conf: &conf,
     };

@@ -21,10 +21,10 @@ use std::alloc::{AllocError, Global};
 
 /// A directory that is copied to the source of a package, and the conf that was read there.
 #[derive(Clone, Copy)]
-pub(crate) struct Original<'a> {
+pub(crate) struct Original<'a, 'b> {
     pub(crate) source: Source<'a>,
-    pub(crate) from: &'a Path,
-    pub(crate) conf: &'a Conf,
+    pub(crate) from: &'b Path,
+    pub(crate) conf: &'b Conf,
 }
 
 // Where a path below the directory is copied to.
@@ -101,7 +101,7 @@ fn copy_paths(
 pub(crate) fn prepare_copy<W: World>(
     alloc: Global,
     world: &mut W,
-    original: Original<'_>,
+    original: Original<'_, '_>,
     met: &[Met],
     request: Option<Request>,
 ) -> Result<Txn, Stop>
