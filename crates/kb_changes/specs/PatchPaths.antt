@@ -13,9 +13,10 @@ pub record ArePathsOf (patch : Patch) (paths : PatchPaths) : Type 0 where
   pub dirs : paths.dirs ≡ patch.dirs
   pub puts : paths.puts ≡ map (λ put. put.0) patch.puts
 
--- A patch of these paths. What it puts there is left open, and taken as a directory.
+-- puts at these targets: what is put counts for nothing here, and is taken as a directory
 abbrev pub some_puts : List Path → List (Path × Node)
 some_puts targets = map (λ path. (path, node.Dir)) targets
 
+-- a patch of these paths
 abbrev pub some_patch : PatchPaths → Patch
 some_patch paths = record { drops = paths.drops; wipes = paths.wipes; dirs = paths.dirs; puts = some_puts paths.puts }
