@@ -8,7 +8,6 @@ use Rattle.kb_world.specs.Patch.{Patch, patched}
 use Rattle.kb_world.specs.Path.{Path}
 use Rattle.kb_world.specs.Public.{public_tree, foreign_tree}
 use Rattle.kb_world.specs.Roots.{AreApart}
-use Rattle.kb_world.specs.Script.{Script}
 use Rattle.kb_world.specs.State.{State}
 use Rattle.kb_world.specs.Steps.{add_tree_patch, add_tree_step}
 use Rattle.kb_world.specs.Store.{is_key}

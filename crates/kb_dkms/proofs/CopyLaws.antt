@@ -1,5 +1,5 @@
 -- What refuses the copy of a directory is asked of the tree, and found in the whole that stands.
-use Rattle.std.proofs.Common.{◌≡◌, ℕ, true, false, cond, List, Option, Some, None, is_some, refl, sym, ap, ◌∙◌}
+use Rattle.std.proofs.Common.{◌≡◌, true, false, cond, Option, Some, None, is_some, sym, ap, ◌∙◌}
 use Rattle.std.specs.Prelude.{Result, Ok, Err}
 use Rattle.std.specs.Option.{ForSome, option_map}
 use Rattle.kb_world.specs.Damage.{hurt}
@@ -10,8 +10,8 @@ use Rattle.kb_world.specs.Path.{Path}
 use Rattle.kb_world.specs.Public.{is_private, public_tree}
 use Rattle.kb_world.specs.Roots.{AreApart}
 use Rattle.kb_world.specs.State.{State, Looks}
-use Rattle.kb_world.specs.Store.{is_key, link_path, source_path}
-use Rattle.kb_world.specs.Tree.{Tree, node_at}
+use Rattle.kb_world.specs.Store.{is_key, source_path}
+use Rattle.kb_world.specs.Tree.{Tree}
 use Rattle.kb_world.specs.declared.job.Key.{Key}
 use Rattle.kb_world.specs.declared.refusal.Refusal.{Refusal}
 use Rattle.kb_world.specs.declared.refusal.Refusal.TheVariants as refusal

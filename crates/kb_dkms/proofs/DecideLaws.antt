@@ -1,5 +1,5 @@
 -- One test behind another: what the first finds refuses, and else the second decides.
-use Rattle.std.proofs.Common.{◌≡◌, ℕ, Option, Some, None, refl, sym, ap, ◌∙◌, subst}
+use Rattle.std.proofs.Common.{◌≡◌, Option, sym, ap, ◌∙◌, subst}
 use Rattle.std.specs.Prelude.{Result, Ok, Err, IsErrOf}
 use Rattle.std.specs.Option.{ForSome, option_or}
 use Rattle.kb_world.specs.Does.{Agrees, Decides}

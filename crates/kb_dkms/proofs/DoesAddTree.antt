@@ -33,7 +33,6 @@ use Rattle.kb_conf.specs.Load.{loaded_conf}
 use Rattle.kb_dkms.specs.Add.{add, already_added, blocked, unused_lines}
 use Rattle.kb_dkms.specs.AddTree.{holds_root, tree_conf, source_there, met_below, too_many, too_large, package_there, too_much, no_copy, copy_and_run, add_copy, add_tree_with, add_tree}
 use Rattle.kb_dkms.specs.Copying.{CanCopy, IsAllMet}
-use Rattle.kb_dkms.specs.Places.{package_places, place_blocked}
 use Rattle.kb_dkms.specs.Scripts.{host_given}
 use Rattle.kb_dkms.proofs.AddLaws.{are_public, standing_shown, blocked_shown}
 use Rattle.kb_dkms.proofs.DecideLaws.{decided_ok, decided_stop}

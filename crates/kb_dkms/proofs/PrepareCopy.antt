@@ -1,12 +1,12 @@
 -- The transaction of an add that copies a directory is put together aside from all that counts.
-use Rattle.std.proofs.Common.{◌≡◌, ℕ, ◌+◌, ◌<◌, ◌^◌, true, false, List, [], ◌∷◌, ◌++◌, map, Option, Some, None, refl, sym, ap, ◌∙◌, subst, arith}
+use Rattle.std.proofs.Common.{◌≡◌, ℕ, ◌+◌, ◌<◌, ◌^◌, true, false, List, [], ◌∷◌, ◌++◌, Option, Some, None, refl, sym, ap, ◌∙◌, subst, arith}
 use Rattle.std.proofs.lemmas.List.Elements.{All-from_recursion}
 use Rattle.std.specs.Prelude.{Result, Ok, Err, codes}
 use Rattle.std.specs.List.{All, AllByRecursion}
 use Rattle.std.specs.Option.{ForSome, option_map}
 use Rattle.kb_world.specs.Layout.{whole_tree}
 use Rattle.kb_world.specs.Patch.{Patch}
-use Rattle.kb_world.specs.Path.{Path, child, is_under}
+use Rattle.kb_world.specs.Path.{Path, is_under}
 use Rattle.kb_world.specs.Public.{is_private, staging_path}
 use Rattle.kb_world.specs.Roots.{AreApart}
 use Rattle.kb_world.specs.State.{State}
@@ -44,9 +44,8 @@ use Rattle.kb_machine.proofs.FitLaws.{root_aside}
 use Rattle.kb_intent.specs.Txn.{StaysAside, BeginsTransaction, Stages, IsStagedFor, AreStagedFor, none_staged, with_staged}
 use Rattle.kb_intent.specs.declared.txn.Txn.{Txn}
 use Rattle.kb_intent.proofs.PlaceLaws.{apart_two}
-use Rattle.kb_dkms.specs.AddTree.{met_below, too_many}
 use Rattle.kb_dkms.specs.Commit.{changes_with, Prepares}
-use Rattle.kb_dkms.specs.Copying.{IsAllMet, StandsAsMet, nodes_met, with_sources, with_sources_counted, StagesSources, StagesMet, paths_copied}
+use Rattle.kb_dkms.specs.Copying.{IsAllMet, StandsAsMet, nodes_met, with_sources, StagesSources, StagesMet, paths_copied}
 use Rattle.kb_dkms.specs.Places.{package_places}
 use Rattle.kb_dkms.specs.declared.places.Places.{Places}
 use Rattle.kb_dkms.proofs.PrepareLaws.{ToldBefore, before_aside, stays_then, stays_as, stays_stop}

@@ -1,21 +1,20 @@
 -- Files and links are staged below the root of sources, one behind another.
-use Rattle.std.proofs.Common.{◌≡◌, ℕ, ◌+◌, ◌<◌, ◌≤◌, ◌^◌, false, true, cond, not, ◌&&◌, List, [], ◌∷◌, ◌++◌, length, take, get_or, map, Option, Some, None, is_some, refl, sym, ap, ◌∙◌, subst, append_assoc, arith, length-append}
+use Rattle.std.proofs.Common.{◌≡◌, ℕ, ◌+◌, ◌<◌, ◌^◌, false, true, cond, not, ◌&&◌, List, [], ◌∷◌, ◌++◌, length, take, get_or, map, Option, Some, None, refl, sym, ap, ◌∙◌, subst, append_assoc, arith, length-append}
 use Rattle.std.proofs.lemmas.List.{append-nil, map-append, length-take-le}
 use Rattle.std.proofs.lemmas.List.Elements.{filter_more, All-get_or}
 use Rattle.std.proofs.lemmas.List.Filters.{length-filter_both}
-use Rattle.std.specs.Prelude.{Result, Ok, Err, OnOk, IsErrOf, unwrap_or}
+use Rattle.std.specs.Prelude.{Result, Ok, Err, OnOk, unwrap_or}
 use Rattle.std.specs.List.{All, AllByRecursion}
 use Rattle.std.specs.Option.{ForSome}
 use Rattle.kb_world.specs.Crash.{History}
 use Rattle.kb_world.specs.Path.{Path, is_under}
 use Rattle.kb_world.specs.Public.{intent_path, is_private, staging_path}
 use Rattle.kb_world.specs.Roots.{AreApart}
-use Rattle.kb_world.specs.State.{State, Looks, Unchanged, HasCause, RanNone}
+use Rattle.kb_world.specs.State.{State, Looks, Unchanged}
 use Rattle.kb_world.specs.Stop.{stop_for}
 use Rattle.kb_world.specs.Tree.{Tree, node_at, kind_of, is_dir, file_bytes, link_text}
 use Rattle.kb_world.specs.declared.roots.Roots.{Roots}
 use Rattle.kb_world.specs.declared.stop.Stop.{Stop}
-use Rattle.kb_world.specs.declared.tree.Kind.{Kind}
 use Rattle.kb_world.specs.declared.tree.Kind.TheVariants as kind
 use Rattle.kb_world.specs.declared.tree.Node.{Node}
 use Rattle.kb_world.specs.declared.tree.Node.TheVariants as node
@@ -24,7 +23,6 @@ use Rattle.kb_world.proofs.CrashLaws.{adds_none}
 use Rattle.kb_world.proofs.DoesLaws.{unchanged_none, no_cause}
 use Rattle.kb_walk.specs.Walking.{is_leaf_kind}
 use Rattle.kb_walk.specs.declared.walking.Met.{Met}
-use Rattle.kb_changes.specs.Changes.{Staged}
 use Rattle.kb_changes.specs.declared.change.RootName.TheVariants as root_name
 use Rattle.kb_machine.specs.Aside.{is_aside, IsSameBut, IsOldOrAside, LeftAside, WorksAside}
 use Rattle.kb_again.proofs.RootLaws.{at_1}

@@ -9,13 +9,12 @@ use Rattle.std.specs.List.{list_any, AllByRecursion}
 use Rattle.kb_world.specs.Does.{Gives, IsAnswer}
 use Rattle.kb_world.specs.Layout.{whole_tree}
 use Rattle.kb_world.specs.Path.{Path, child, is_under}
-use Rattle.kb_world.specs.Public.{is_private, private_places, staging_path}
+use Rattle.kb_world.specs.Public.{is_private, private_places}
 use Rattle.kb_world.specs.State.{State}
 use Rattle.kb_world.specs.StorePath.{store_path, path_of, is_in_scratch, is_ruled}
 use Rattle.kb_world.specs.Tree.{Tree, node_at}
 use Rattle.kb_world.specs.declared.job.Host.{Host}
 use Rattle.kb_world.specs.declared.job.Key.{Key}
-use Rattle.kb_world.specs.declared.refusal.Refusal.{Refusal}
 use Rattle.kb_world.specs.declared.refusal.Refusal.TheVariants as refusal
 use Rattle.kb_world.specs.declared.roots.Roots.{Roots}
 use Rattle.kb_world.specs.declared.stop.Stop.{Stop}

@@ -1,17 +1,16 @@
 -- What `dkms add` of a directory names and stages, by what a walk met below it.
-use Rattle.std.proofs.Common.{◌≡◌, suc, ◌<◌, ◌^◌, Bool, true, false, List, [], ◌∷◌, ◌++◌, length, map, Option, None, refl, sym, ap, ◌∙◌, subst, arith}
-use Rattle.std.proofs.lemmas.List.{map-id, append-nil}
+use Rattle.std.proofs.Common.{◌≡◌, suc, ◌<◌, ◌^◌, Bool, true, false, List, [], ◌∷◌, ◌++◌, length, map, Option, None, sym, ap, ◌∙◌, subst, arith}
+use Rattle.std.proofs.lemmas.List.{map-id}
 use Rattle.std.proofs.lemmas.Simd.{map-map}
 use Rattle.std.specs.Prelude.{filter, unwrap_or}
 use Rattle.std.specs.List.{AllByRecursion}
 use Rattle.std.specs.FinMap.{keys}
-use Rattle.std.specs.Option.{option_or}
 use Rattle.kb_world.specs.Layout.{whole_tree}
 use Rattle.kb_world.specs.Path.{Path}
 use Rattle.kb_world.specs.Public.{is_private}
 use Rattle.kb_world.specs.Roots.{AreApart, is_below}
 use Rattle.kb_world.specs.Steps.{add_tree_patch}
-use Rattle.kb_world.specs.Store.{is_key, module_path, version_path, link_path, source_path, source_text}
+use Rattle.kb_world.specs.Store.{is_key, link_path, source_path, source_text}
 use Rattle.kb_world.specs.Tree.{Tree, node_at, kind_of, is_dir, is_leaf, IsFormed}
 use Rattle.kb_world.specs.declared.job.Key.{Key}
 use Rattle.kb_world.specs.declared.roots.Roots.{Roots}

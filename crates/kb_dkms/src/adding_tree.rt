@@ -48,7 +48,7 @@ fn copy_and_run<W: World>(
         (whole_tree original.source.job.now.host.roots tree) met.now) }
     ensures { DoesAcrossCrashes original.entry.source.job.now.host.roots
         (action.copy_and_run original.entry.source.job.now.host (W.state world.old).script
-            original.entry.from.now original.entry.conf.now)
+        original.entry.from.now original.entry.conf.now)
         (W.state world.old) (W.state world.new) report.old report.new result }
 {
     // The line is gathered first, so that want of memory for it leaves the tree as it was.
@@ -92,13 +92,13 @@ fn add_copy<W: World>(
         node_at tree (intent_path original.source.job.now.host.roots) ≡ None) }
     requires sound { ForSome (W.state world.old).tree (λ tree.
         hurt original.source.job.now.host.roots
-            (public_tree original.source.job.now.host.roots tree) ≡ None) }
+        (public_tree original.source.job.now.host.roots tree) ≡ None) }
     requires own { is_private original.source.job.now.host.roots original.from.now ≡ false }
     requires directory { ForSome (W.state world.old).tree (λ tree.
         is_dir (node_at tree original.from.now) ≡ true) }
     ensures { DoesAcrossCrashes original.entry.source.job.now.host.roots
         (action.add_copy original.entry.source.job.now.host (W.state world.old).script
-            original.entry.from.now original.entry.conf.now)
+        original.entry.from.now original.entry.conf.now)
         (W.state world.old) (W.state world.new) report.old report.new result }
 {
     warn_unused(alloc, &mut report.err, original.conf.unused.as_slice())?;

@@ -116,7 +116,7 @@ pub(crate) fn prepare_copy<W: World>(
         (whole_tree original.source.job.now.host.roots tree) met.now) }
     ensures { Prepares original.entry.source.job.now.host.roots
         (λ tree. add_tree_patch original.entry.source.job.now.host.roots original.entry.source.key.now
-            original.entry.from.now (whole_tree original.entry.source.job.now.host.roots tree)) request
+        original.entry.from.now (whole_tree original.entry.source.job.now.host.roots tree)) request
         (W.state world.old) (W.state world.new) result }
 {
     let source = original.source;

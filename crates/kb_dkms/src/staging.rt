@@ -69,12 +69,7 @@ fn stage_link_at<W: World>(
 }
 
 // Stages a copy of what was met. A directory needs no staging.
-fn stage_met<W: World>(
-    alloc: Global,
-    world: &mut W,
-    txn: &mut Txn,
-    met: &Met,
-) -> Result<(), Stop>
+fn stage_met<W: World>(alloc: Global, world: &mut W, txn: &mut Txn, met: &Met) -> Result<(), Stop>
     requires apart { AreApart txn.old.roots }
     requires there { ForSome (W.state world.old).tree (λ tree.
         is_dir (node_at tree txn.old.roots.src) ≡ true) }

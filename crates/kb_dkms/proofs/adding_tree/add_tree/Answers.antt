@@ -5,7 +5,7 @@ use Rattle.std.specs.Cmp.Lexicographic.{lists_ties, texts_ties}
 use Rattle.kb_world.specs.TreeLaws.{same_path}
 use Rattle.kb_dkms.specs.declared.places.Places.{Places}
 use Rattle.kb_dkms.specs.AddTree.{add_tree, add_tree_with}
-use Rattle.kb_dkms.proofs.DoesAdd.{kernel_named, for_host}
+use Rattle.kb_dkms.proofs.DoesAdd.{kernel_named}
 use Rattle.kb_dkms.proofs.DoesAddTree.{tree_unread, tree_read, tree_added, tree_copied, tree_there}
 use Rattle.kb_dkms.proofs.WantLaws.{wants_first}
 use Rattle.kb_dkms.proofs.adding_tree.add_tree.Goals as goal

@@ -1,4 +1,4 @@
-use Rattle.std.proofs.Common.{◌≡◌, sym, ◌∙◌}
+use Rattle.std.proofs.Common.{sym, ◌∙◌}
 use Rattle.kb_dkms.proofs.TreeConf.{refuses_directory, reads_directory, not_own}
 use Rattle.kb_dkms.proofs.copying.load_tree_conf.Goals as goal
 

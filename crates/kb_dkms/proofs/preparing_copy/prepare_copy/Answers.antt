@@ -2,7 +2,7 @@
 use Rattle.std.proofs.Common.{ap, ◌∙◌}
 use Rattle.kb_dkms.specs.declared.places.Places.{Places}
 use Rattle.kb_dkms.proofs.PrepareLaws.{with_text}
-use Rattle.kb_dkms.proofs.PrepareCopy.{begun_apart, begun_src, begun_held, begun_none, begun_met, copy_unstaged, copied_apart, copied_dkms, copied_held, copied_room, link_unstaged, copy_unprepared, copy_prepared}
+use Rattle.kb_dkms.proofs.PrepareCopy.{begun_src, begun_held, begun_met, copy_unstaged, copied_dkms, copied_held, link_unstaged, copy_unprepared, copy_prepared}
 use Rattle.kb_dkms.proofs.preparing_copy.prepare_copy.Goals as goal
 
 pub stage_all_met-requires-clause-there : goal.stage_all_met-requires-clause-there

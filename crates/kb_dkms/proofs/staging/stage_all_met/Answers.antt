@@ -1,6 +1,6 @@
 -- One entry behind another.
-use Rattle.std.proofs.Common.{rules, arith}
-use Rattle.kb_dkms.specs.Copying.{nodes_met, leaves_met}
+use Rattle.std.proofs.Common.{arith}
+use Rattle.kb_dkms.specs.Copying.{nodes_met}
 use Rattle.kb_dkms.proofs.StageLaws.{sources_nothing, sources_stopped, still_there, still_staged, still_room, still_met, one_more_met}
 use Rattle.kb_dkms.proofs.staging.stage_all_met.Goals as goal
 
