@@ -48,19 +48,19 @@ abbrev pub too_many : Path → Tree → Option Refusal
 too_many from whole = option_map refusal.TooMany (walked LIMITS whole (λ path. false) from).over
 
 -- a file of more than 256 MiB
-abbrev pub is_too_large : Kind → Bool
-is_too_large (kind.File len exec) = nat_lt 268435456 len
-is_too_large kind.Absent = false
-is_too_large kind.Dir = false
-is_too_large kind.Link = false
+abbrev pub is_too_large_to_copy : Kind → Bool
+is_too_large_to_copy (kind.File len exec) = nat_lt 268435456 len
+is_too_large_to_copy kind.Absent = false
+is_too_large_to_copy kind.Dir = false
+is_too_large_to_copy kind.Link = false
 
 -- the first of these files that is too large to be copied
-abbrev pub first_too_large : List Met → Option Path
-first_too_large [] = None
-first_too_large (met ∷ later) = cond (is_too_large met.kind) (Some met.path) (first_too_large later)
+abbrev pub first_too_large_to_copy : List Met → Option Path
+first_too_large_to_copy [] = None
+first_too_large_to_copy (met ∷ later) = cond (is_too_large_to_copy met.kind) (Some met.path) (first_too_large_to_copy later)
 
 abbrev pub too_large : Path → Tree → Option Refusal
-too_large from whole = option_map refusal.TooLarge (first_too_large (met_below from whole))
+too_large from whole = option_map refusal.TooLarge (first_too_large_to_copy (met_below from whole))
 
 -- ---- the action
 

@@ -111,12 +111,12 @@ fn add_copy<W: World>(
 
 /// `dkms add` of a directory: it is copied to the source of the package that its conf names, with
 /// all that is below it, and the package is added, in one transaction; then the script that the
-/// conf names for that is run in the copy. A directory that is the package's own source is added as
-/// the package is. Refused where a root is at or under the directory, for the first refusal of its
-/// conf, where the package is added already, where something stands at its source, where there is
-/// more below the directory than is copied, at the first file that is too large, and where a file or
-/// a link stands where the link's directories are needed. A name of the conf that isn't used, and a
-/// script that fails, give a warning.
+/// conf names for that is run in the copy. A directory that is the package's own source is added
+/// as the package is. Refused where a root is at or under the directory, for the first refusal of
+/// its conf, where the package is added already, where something stands at its source, where there
+/// is more below the directory than is copied, at the first file that is too large, and where a
+/// file or a link stands where the link's directories are needed. A name of the conf that isn't
+/// used, and a script that fails, give a warning.
 pub fn add_tree<W: World>(
     alloc: Global,
     world: &mut W,

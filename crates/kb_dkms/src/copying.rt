@@ -39,13 +39,14 @@ fn holds_root(roots: &Roots, from: &Path) -> bool
 
 // Whether the directory is a root or above one, or the tool's own.
 fn is_no_source(roots: &Roots, from: &Path) -> bool
-    ensures { result ≡ (action.holds_root roots.now from.now || public.is_private roots.now from.now) }
+    ensures { result
+        ≡ (action.holds_root roots.now from.now || public.is_private roots.now from.now) }
 {
     holds_root(roots, from) || is_private(roots, from)
 }
 
-/// The conf of a directory that is to be added. A directory that is a root or above one, and one of the tool's own, is
-/// no source.
+/// The conf of a directory that is to be added. A directory that is a root or above one, and one of
+/// the tool's own, is no source.
 pub(crate) fn load_tree_conf<W: World>(
     alloc: Global,
     world: &mut W,
@@ -54,7 +55,8 @@ pub(crate) fn load_tree_conf<W: World>(
     given: &Given,
 ) -> Result<Conf, Stop>
     requires { given.now ≡ host_given job.now.host }
-    ensures read { Gives (λ tree. action.tree_conf job.now.host from.now (whole_tree job.now.host.roots tree))
+    ensures read { Gives
+        (λ tree. action.tree_conf job.now.host from.now (whole_tree job.now.host.roots tree))
         (W.state world.old) (W.state world.new) result }
     ensures named { IfOk result (λ conf. IsTrue (is_key conf.key)) }
     ensures own { IfOk result (λ conf. public.is_private job.now.host.roots from.now ≡ false) }
@@ -69,7 +71,8 @@ pub(crate) fn load_tree_conf<W: World>(
 
 // Refused where something stands at the package's source.
 fn require_free<W: World>(alloc: Global, world: &mut W, source: &Path) -> Result<(), Stop>
-    ensures { Decides (action.source_there source.now) (W.state world.old) (W.state world.new) result }
+    ensures { Decides (action.source_there source.now) (W.state world.old) (W.state world.new)
+        result }
 {
     match world.look(alloc, source)? {
         Kind::Absent => Ok(()),
@@ -87,7 +90,8 @@ fn walk_source<W: World>(
     from: &Path,
 ) -> Result<Sequence<Met>, Stop>
     requires own { public.is_private roots.now from.now ≡ false }
-    requires directory { ForSome (W.state world.old).tree (λ tree. is_dir (node_at tree from.now) ≡ true) }
+    requires directory { ForSome (W.state world.old).tree (λ tree.
+        is_dir (node_at tree from.now) ≡ true) }
     ensures decides { Decides (λ tree. action.too_many from.now (whole_tree roots.now tree))
         (W.state world.old) (W.state world.new) result }
     ensures met { IfOk result (λ met. ForSome (W.state world.old).tree (λ tree.
@@ -101,7 +105,7 @@ fn walk_source<W: World>(
 }
 
 fn is_too_large(kind: Kind) -> bool
-    ensures { result ≡ action.is_too_large kind }
+    ensures { result ≡ action.is_too_large_to_copy kind }
 {
     match kind {
         Kind::File { len, .. } => len > LARGEST_FILE,
@@ -111,7 +115,8 @@ fn is_too_large(kind: Kind) -> bool
 
 // Refused at the first file that is too large to be copied.
 fn require_small(met: &[Met]) -> Result<(), Stop>
-    ensures agrees { Agrees result (option_map refusal.TooLarge (action.first_too_large met.now)) }
+    ensures agrees { Agrees result
+        (option_map refusal.TooLarge (action.first_too_large_to_copy met.now)) }
     ensures faultless { IsErrOf result Fault → ⊥ }
 {
     for entry in met {
@@ -135,8 +140,10 @@ fn require_no_package<W: World>(
     requires places { source.places.now ≡ package_places source.job.now.host.roots source.key.now }
     requires sound { ForSome (W.state world.old).tree (λ tree.
         hurt source.job.now.host.roots (public.public_tree source.job.now.host.roots tree) ≡ None) }
-    ensures { Decides (λ tree. action.package_there source.entry.job.now.host.roots source.entry.key.now
-        (whole_tree source.entry.job.now.host.roots tree)) (W.state world.old) (W.state world.new) result }
+    ensures { Decides
+        (λ tree. action.package_there source.entry.job.now.host.roots source.entry.key.now
+        (whole_tree source.entry.job.now.host.roots tree))
+        (W.state world.old) (W.state world.new) result }
 {
     match require_unadded(alloc, world, source.key, &source.places.link) {
         Ok(()) => require_free(alloc, world, &source.places.source),
@@ -152,7 +159,8 @@ fn meet_small<W: World>(
     from: &Path,
 ) -> Result<Sequence<Met>, Stop>
     requires own { public.is_private roots.now from.now ≡ false }
-    requires directory { ForSome (W.state world.old).tree (λ tree. is_dir (node_at tree from.now) ≡ true) }
+    requires directory { ForSome (W.state world.old).tree (λ tree.
+        is_dir (node_at tree from.now) ≡ true) }
     ensures decides { Decides (λ tree. action.too_much from.now (whole_tree roots.now tree))
         (W.state world.old) (W.state world.new) result }
     ensures met { IfOk result (λ met. ForSome (W.state world.old).tree (λ tree.
@@ -168,10 +176,10 @@ fn meet_small<W: World>(
     }
 }
 
-/// What stands below a directory that is to be copied to the package's source, in the order of paths. Refused where the
-/// package is added already, where something stands at its source, where there is more below the directory than a walk
-/// may meet, at the first file that is too large, and where a file or a link stands where the package's link needs a
-/// directory.
+/// What stands below a directory that is to be copied to the package's source, in the order of
+/// paths. Refused where the package is added already, where something stands at its source, where
+/// there is more below the directory than a walk may meet, at the first file that is too large, and
+/// where a file or a link stands where the package's link needs a directory.
 pub(crate) fn meet_source<W: World>(
     alloc: Global,
     world: &mut W,
@@ -182,11 +190,14 @@ pub(crate) fn meet_source<W: World>(
     requires apart { AreApart source.job.now.host.roots }
     requires places { source.places.now ≡ package_places source.job.now.host.roots source.key.now }
     requires own { public.is_private source.job.now.host.roots from.now ≡ false }
-    requires directory { ForSome (W.state world.old).tree (λ tree. is_dir (node_at tree from.now) ≡ true) }
+    requires directory { ForSome (W.state world.old).tree (λ tree.
+        is_dir (node_at tree from.now) ≡ true) }
     requires sound { ForSome (W.state world.old).tree (λ tree.
         hurt source.job.now.host.roots (public.public_tree source.job.now.host.roots tree) ≡ None) }
-    ensures decides { Decides (λ tree. action.no_copy source.entry.job.now.host.roots source.entry.key.now from.now
-        (whole_tree source.entry.job.now.host.roots tree)) (W.state world.old) (W.state world.new) result }
+    ensures decides { Decides
+        (λ tree. action.no_copy source.entry.job.now.host.roots source.entry.key.now from.now
+        (whole_tree source.entry.job.now.host.roots tree))
+        (W.state world.old) (W.state world.new) result }
     ensures met { IfOk result (λ met. ForSome (W.state world.old).tree (λ tree.
         met ≡ action.met_below from.now (whole_tree source.entry.job.now.host.roots tree))) }
 {

@@ -115,8 +115,9 @@ pub(crate) fn prepare_copy<W: World>(
     requires met { ForSome (W.state world.old).tree (λ tree. copying.IsAllMet original.from.now
         (whole_tree original.source.job.now.host.roots tree) met.now) }
     ensures { Prepares original.entry.source.job.now.host.roots
-        (λ tree. add_tree_patch original.entry.source.job.now.host.roots original.entry.source.key.now
-        original.entry.from.now (whole_tree original.entry.source.job.now.host.roots tree)) request
+        (λ tree. add_tree_patch original.entry.source.job.now.host.roots
+        original.entry.source.key.now original.entry.from.now
+        (whole_tree original.entry.source.job.now.host.roots tree)) request
         (W.state world.old) (W.state world.new) result }
 {
     let source = original.source;

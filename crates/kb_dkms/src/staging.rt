@@ -77,7 +77,8 @@ fn stage_met<W: World>(alloc: Global, world: &mut W, txn: &mut Txn, met: &Met) -
     requires room { txn.old.staged.src + 1 < 2 ^ 64 }
     requires met { ForSome (W.state world.old).tree (λ tree.
         StandsAsMet txn.old.roots tree met.now) }
-    ensures { StagesMet (met.now ∷ []) txn.old txn.new (W.state world.old) (W.state world.new) result }
+    ensures { StagesMet (met.now ∷ []) txn.old txn.new (W.state world.old) (W.state world.new)
+        result }
 {
     match met.kind {
         Kind::File { exec, .. } => stage_file_at(alloc, world, txn, &met.path, exec),
