@@ -4,7 +4,8 @@ ghost use Rattle.kb_world.specs.Read.{IsRead};
 ghost use Rattle.kb_words.specs.Reading.{reading};
 
 use crate::command::Command;
-use crate::progress::{Progress, usage};
+use crate::parts::usage;
+use crate::progress::Progress;
 use kb_world::{Host, Stop, Text};
 use std::alloc::Global;
 
@@ -24,11 +25,11 @@ pub fn read_words(alloc: Global, words: &[Text], _host: &Host) -> Result<Command
     let mut state = Progress::Start;
     let mut rest = words;
     while let Some((word, behind)) = rest.split_first() {
-        let Some(next) = state.after(word.as_str()) else {
+        let Some(next) = state.after(alloc, word.as_str())? else {
             return Err(usage(place_of(words, rest)));
         };
         state = next;
         rest = behind;
     }
-    state.end(alloc, place_of(words, rest))
+    state.end(place_of(words, rest))
 }
