@@ -27,7 +27,8 @@ fn is_nonempty(text: &str) -> bool
 /// The module and the version that the word names, where it names a package.
 pub fn split_package(word: &str) -> Option<(&str, &str)>
     ensures { MatchOption result (package_split word.now ≡ None)
-        (λ names. package_split word.now ≡ Some (record { «module» = names.0.now; version = names.1.now })) }
+        (λ names. package_split word.now
+        ≡ Some (record { «module» = names.0.now; version = names.1.now })) }
 {
     let (module, version) = word.split_once('/')?;
     let named = !begins_with_dash(module) && is_nonempty(module) && is_nonempty(version);

@@ -17,8 +17,9 @@ fn place_of(words: &[Text], rest: &[Text]) -> u64
     (words.len() - rest.len()) as u64 + 1
 }
 
-/// The command that the words are. Refused where they are no command line, with the place of the first word that
-/// none has, then for an action on archives, and then for the first name that breaks its rule.
+/// The command that the words are. Refused where they are no command line, with the place of the
+/// first word that none has, then for an action on archives, and then for the first name that
+/// breaks its rule.
 pub fn read_words(alloc: Global, words: &[Text], _host: &Host) -> Result<Command, Stop>
     ensures { IsRead result (reading words.now) }
 {
