@@ -5,7 +5,7 @@ ghost use Rattle.kb_words.specs.Words.{is_archive};
 ghost use Rattle.kb_words.specs.Reading as spec;
 
 use crate::command::Command;
-use crate::parts::{Action, Seen, usage};
+use crate::parts::{DkmsAction, Seen, usage};
 use kb_world::{Refusal, Stop, Text};
 use std::alloc::{AllocError, Global};
 
@@ -35,13 +35,13 @@ fn is_archive(word: &str) -> bool
         || word == "mkkmp"
 }
 
-fn action_named(word: &str) -> Option<Action>
+fn action_named(word: &str) -> Option<DkmsAction>
     ensures { result ≡ spec.action_named word.now }
 {
     if word == "add" {
-        Some(Action::Add)
+        Some(DkmsAction::Add)
     } else if word == "status" {
-        Some(Action::Status)
+        Some(DkmsAction::Status)
     } else {
         None
     }
