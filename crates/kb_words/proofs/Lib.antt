@@ -1,5 +1,9 @@
+pub mod FitLaws
+pub mod GatherLaws
 pub mod LineLaws
+pub mod MeaningLaws
 pub mod PackageLaws
 pub mod PartLaws
 pub mod PlaceLaws
+pub mod SlashLaws
 pub mod WalkLaws

@@ -2,16 +2,18 @@
 use Rattle.std.proofs.Common.{◌≡◌, ℕ, suc, ◌+◌, ◌<◌, ◌≤◌, Bool, true, false, cond, ◌&&◌, List, [], ◌∷◌, ◌++◌, length, take, drop, Option, Some, None, Result, Ok, Err, nat_lt, refl, sym, ap, ◌∙◌, subst, append_assoc, take-append-drop, take-take, one-add, ltb-true, ltb-false, inl, inr, arith}
 use Rattle.std.specs.Option.{option_or}
 use Rattle.std.specs.List.{list_all, filter_map}
-use Rattle.kb_world.specs.Names.{is_word, is_version}
+use Rattle.kb_world.specs.Names.{is_word, is_version, is_kernel, is_arch}
 use Rattle.kb_world.specs.declared.refusal.Refusal.{Refusal}
 use Rattle.kb_world.specs.declared.refusal.Refusal.TheVariants as refusal
 use Rattle.kb_words.specs.declared.command.Command.{Command}
 use Rattle.kb_words.specs.declared.command.Command.TheVariants as command
-use Rattle.kb_words.specs.Words.{Word, Part, Package, Module, Version, module_in, version_in, if_no_word, if_no_version, first_bad, Line, ForCommand, ForArchive, IsLine, CanBegin, IsPlace, IsReadAs, answer_to, names_keep_rules}
-use Rattle.kb_words.specs.Reading.{Progress, Start, after_word, line_from, known, read_line, reading}
+use Rattle.kb_words.specs.declared.progress.Progress.{Progress}
+use Rattle.kb_words.specs.declared.progress.Progress.TheVariants.{Start}
+use Rattle.kb_words.specs.Words.{Word, Part, Package, BareModule, Module, Version, Kernel, KernelArch, Arch, module_in, version_in, kernel_in, arch_in, if_it_breaks, first_bad, Line, ForCommand, ForArchive, IsLine, CanBegin, IsPlace, IsReadAs, answer_to, names_keep_rules}
+use Rattle.kb_words.specs.Reading.{after_word, line_from, known, read_line, reading}
 use Rattle.kb_words.proofs.WalkLaws.{line_step, known_step, line_stop, known_stop, line_end, known_end}
 use Rattle.kb_words.proofs.PartLaws.{none_some, same_some}
-use Rattle.kb_words.proofs.LineLaws.{Rest, goes_on, comes_from, ends, ended_so, completed}
+use Rattle.kb_words.proofs.LineLaws.{Rest, goes_on, comes_from, ends, ended_so, IsOpen, open_after, completed}
 
 -- ---- the line
 
@@ -45,14 +47,14 @@ known_within (word ∷ rest) state = by_case (after_word state word) refl (known
         let fewer = few next in
         omega arith
 
-known_can : (words : List Word) (state : Progress) → CanGo state (take (known state words) words)
-known_can [] state = subst (λ n. CanGo state (take n [])) (sym (known_end state)) (completed state)
-known_can (word ∷ rest) state = by_case (after_word state word) refl (known_can rest)
+known_can : (words : List Word) (state : Progress) → IsOpen state → CanGo state (take (known state words) words)
+known_can [] state agrees = subst (λ n. CanGo state (take n [])) (sym (known_end state)) (completed state agrees)
+known_can (word ∷ rest) state agrees = by_case (after_word state word) refl (known_can rest)
   where
-    by_case : (found : Option Progress) → after_word state word ≡ found → ((next : Progress) → CanGo next (take (known next rest) rest)) → CanGo state (take (known state (word ∷ rest)) (word ∷ rest))
-    by_case None e can = subst (λ n. CanGo state (take n (word ∷ rest))) (sym (known_stop state word rest e)) (completed state)
+    by_case : (found : Option Progress) → after_word state word ≡ found → ((next : Progress) → IsOpen next → CanGo next (take (known next rest) rest)) → CanGo state (take (known state (word ∷ rest)) (word ∷ rest))
+    by_case None e can = subst (λ n. CanGo state (take n (word ∷ rest))) (sym (known_stop state word rest e)) (completed state agrees)
     by_case (Some next) e can =
-        let c = can next in
+        let c = can next (open_after state next word e agrees) in
         let more : CanGo state (word ∷ take (known next rest) rest) = (c.0, c.1, comes_from state next word (take (known next rest) rest ++ c.0) c.1 e c.2) in
         subst (λ n. CanGo state (take n (word ∷ rest))) (sym (known_step state next word rest e ∙ one-add (known next rest))) more
 
@@ -85,7 +87,7 @@ place_known words = record {
   longest = known Start words;
   place_is = refl;
   within = known_within words Start;
-  begins = known_can words Start;
+  begins = known_can words Start tt;
   no_longer = λ n more within can. known_no_more words Start (omega arith) (begins_before words (suc (known Start words)) n (omega arith) can);
 }
 
@@ -130,35 +132,87 @@ neither : (a b : Option Word) → option_or a b ≡ None → (a ≡ None) × (b 
 neither None b h = (refl, h)
 neither (Some x) b h = cc
 
-word_good : (name : Word) → if_no_word name ≡ None → is_word name ≡ true
-word_good name h = by_case (is_word name) refl h
+keeps_rule : (rule : Word → Bool) (name : Word) → if_it_breaks rule name ≡ None → rule name ≡ true
+keeps_rule rule name h = by_case (rule name) refl h
   where
-    by_case : (b : Bool) → is_word name ≡ b → cond b None (Some name) ≡ None → is_word name ≡ true
+    by_case : (b : Bool) → rule name ≡ b → cond b None (Some name) ≡ None → rule name ≡ true
     by_case true e h = e
     by_case false e h = cc
 
-version_good : (name : Word) → if_no_version name ≡ None → is_version name ≡ true
-version_good name h = by_case (is_version name) refl h
-  where
-    by_case : (b : Bool) → is_version name ≡ b → cond b None (Some name) ≡ None → is_version name ≡ true
-    by_case true e h = e
-    by_case false e h = cc
+-- the names of each kind keep its rule
+record AreGood (parts : List Part) : Type 0 where
+  modules : list_all is_word (filter_map module_in parts) ≡ true
+  versions : list_all is_version (filter_map version_in parts) ≡ true
+  kernels : list_all is_kernel (filter_map kernel_in parts) ≡ true
+  arches : list_all is_arch (filter_map arch_in parts) ≡ true
 
-good_names : (parts : List Part) → first_bad parts ≡ None → (list_all is_word (filter_map module_in parts) ≡ true) × (list_all is_version (filter_map version_in parts) ≡ true)
-good_names [] h = (refl, refl)
+good_names : (parts : List Part) → first_bad parts ≡ None → AreGood parts
+good_names [] h = record { modules = refl; versions = refl; kernels = refl; arches = refl }
 good_names (Package key ∷ parts) h =
-    let here = neither (option_or (if_no_word key.module) (if_no_version key.version)) (first_bad parts) h in
-    let names = neither (if_no_word key.module) (if_no_version key.version) here.0 in
+    let here = neither (option_or (if_it_breaks is_word key.module) (if_it_breaks is_version key.version)) (first_bad parts) h in
+    let names = neither (if_it_breaks is_word key.module) (if_it_breaks is_version key.version) here.0 in
     let rest = good_names parts here.1 in
-    ((λ i. word_good key.module names.0 i && rest.0 i), (λ i. version_good key.version names.1 i && rest.1 i))
+    record {
+      modules = (λ i. keeps_rule is_word key.module names.0 i && rest.modules i);
+      versions = (λ i. keeps_rule is_version key.version names.1 i && rest.versions i);
+      kernels = rest.kernels;
+      arches = rest.arches;
+    }
+good_names (BareModule name ∷ parts) h =
+    let here = neither (if_it_breaks is_word name) (first_bad parts) h in
+    let rest = good_names parts here.1 in
+    record {
+      modules = (λ i. keeps_rule is_word name here.0 i && rest.modules i);
+      versions = rest.versions;
+      kernels = rest.kernels;
+      arches = rest.arches;
+    }
 good_names (Module name ∷ parts) h =
-    let here = neither (if_no_word name) (first_bad parts) h in
+    let here = neither (if_it_breaks is_word name) (first_bad parts) h in
     let rest = good_names parts here.1 in
-    ((λ i. word_good name here.0 i && rest.0 i), rest.1)
+    record {
+      modules = (λ i. keeps_rule is_word name here.0 i && rest.modules i);
+      versions = rest.versions;
+      kernels = rest.kernels;
+      arches = rest.arches;
+    }
 good_names (Version name ∷ parts) h =
-    let here = neither (if_no_version name) (first_bad parts) h in
+    let here = neither (if_it_breaks is_version name) (first_bad parts) h in
     let rest = good_names parts here.1 in
-    (rest.0, (λ i. version_good name here.0 i && rest.1 i))
+    record {
+      modules = rest.modules;
+      versions = (λ i. keeps_rule is_version name here.0 i && rest.versions i);
+      kernels = rest.kernels;
+      arches = rest.arches;
+    }
+good_names (Kernel name ∷ parts) h =
+    let here = neither (if_it_breaks is_kernel name) (first_bad parts) h in
+    let rest = good_names parts here.1 in
+    record {
+      modules = rest.modules;
+      versions = rest.versions;
+      kernels = (λ i. keeps_rule is_kernel name here.0 i && rest.kernels i);
+      arches = rest.arches;
+    }
+good_names (KernelArch spot ∷ parts) h =
+    let here = neither (option_or (if_it_breaks is_kernel spot.kernel) (if_it_breaks is_arch spot.arch)) (first_bad parts) h in
+    let names = neither (if_it_breaks is_kernel spot.kernel) (if_it_breaks is_arch spot.arch) here.0 in
+    let rest = good_names parts here.1 in
+    record {
+      modules = rest.modules;
+      versions = rest.versions;
+      kernels = (λ i. keeps_rule is_kernel spot.kernel names.0 i && rest.kernels i);
+      arches = (λ i. keeps_rule is_arch spot.arch names.1 i && rest.arches i);
+    }
+good_names (Arch name ∷ parts) h =
+    let here = neither (if_it_breaks is_arch name) (first_bad parts) h in
+    let rest = good_names parts here.1 in
+    record {
+      modules = rest.modules;
+      versions = rest.versions;
+      kernels = rest.kernels;
+      arches = (λ i. keeps_rule is_arch name here.0 i && rest.arches i);
+    }
 
 alone : (a b : Bool) → (a && true) ≡ true → (b && true) ≡ true → (a && b) ≡ true
 alone true true p q = refl
@@ -169,9 +223,14 @@ keeps : (words : List Word) (it : Command) → IsLine words (ForCommand it None)
 keeps words command.Help is = refl
 keeps words command.Recover is = refl
 keeps words (command.Add key) is =
-    let good = good_names is.1 (sym is.4) in
-    let names = is.3 in
-    alone (is_word key.module) (is_version key.version) (sym (ap (list_all is_word) names.module_once) ∙ good.0) (sym (ap (list_all is_version) names.version_once) ∙ good.1)
+    let good = good_names is.parts (sym is.bad_is) in
+    let names = is.meant in
+    alone (is_word key.module) (is_version key.version) (sym (ap (list_all is_word) names.module_once) ∙ good.modules) (sym (ap (list_all is_version) names.version_once) ∙ good.versions)
+keeps words (command.Status filter) is =
+    let good = good_names is.parts (sym is.bad_is) in
+    let names = is.meant in
+    (λ i. (sym (ap (list_all is_word) names.module_at_most_once) ∙ good.modules) i && (sym (ap (list_all is_version) names.version_at_most_once) ∙ good.versions) i
+    && (ap (list_all is_kernel) names.kernels ∙ good.kernels) i && (ap (list_all is_arch) names.arches ∙ good.arches) i)
 
 pub named : (words : List Word) (it : Command) → reading words ≡ Ok it → names_keep_rules it ≡ true
 named words it is = by_case (line_from Start words) refl is

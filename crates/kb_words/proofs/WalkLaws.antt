@@ -1,8 +1,10 @@
 -- The walk over the words, a word at a time.
 use Rattle.std.proofs.Common.{◌≡◌, ℕ, ◌+◌, ◌-◌, ◌≤◌, List, [], ◌∷◌, length, Some, None, Err, refl, sym, ap, ◌∙◌, arith}
 use Rattle.kb_world.specs.declared.refusal.Refusal.TheVariants as refusal
+use Rattle.kb_words.specs.declared.progress.Progress.{Progress}
+use Rattle.kb_words.specs.declared.progress.Progress.TheVariants.{Start}
 use Rattle.kb_words.specs.Words.{Word}
-use Rattle.kb_words.specs.Reading.{Progress, Start, after_word, ended, line_behind, line_from, known_behind, known, read_line, reading}
+use Rattle.kb_words.specs.Reading.{after_word, ended, line_behind, line_from, known_behind, known, read_line, reading}
 
 pub line_step : (state next : Progress) (word : Word) (rest : List Word) → after_word state word ≡ Some next → line_from state (word ∷ rest) ≡ line_from next rest
 unfolding line_from

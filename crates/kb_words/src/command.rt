@@ -1,6 +1,6 @@
 // What words can ask for.
 
-use kb_world::Key;
+use kb_world::{Filter, Key};
 
 /// A command that words can be.
 #[derive(Debug, Drop)]
@@ -9,4 +9,6 @@ pub enum Command {
     /// The journal's transaction is ended, and nothing else is done.
     Recover,
     Add { key: Key },
+    /// The lines that the filter wants are printed.
+    Status { filter: Filter },
 }

@@ -1,27 +1,25 @@
 // Where in a command line the words read so far end.
-ghost use Rattle.std.specs.Prelude.{◌≡◌, option_map};
+ghost use Rattle.std.specs.Prelude.{◌≡◌, IfOk};
 ghost use Rattle.kb_world.specs.Read.{IsRead};
-ghost use Rattle.kb_world.specs.declared.stop.Stop.TheVariants as stop;
-ghost use Rattle.kb_world.specs.declared.refusal.Refusal.TheVariants as refusal;
 ghost use Rattle.kb_words.specs.Words.{is_archive};
 ghost use Rattle.kb_words.specs.Reading as spec;
-ghost use Rattle.kb_words.specs.Views.{view_seen, view_state};
 
 use crate::command::Command;
-use crate::parts::Seen;
-use kb_world::{Key, Refusal, Stop, Text};
-use std::alloc::Global;
+use crate::parts::{DkmsAction, Seen, usage};
+use kb_world::{Refusal, Stop, Text};
+use std::alloc::{AllocError, Global};
 
 /// Where the words read so far end.
-#[derive(Clone, Copy, Debug)]
-pub enum Progress<'a> {
+#[derive(Debug, Drop)]
+pub enum Progress {
     Start,
     Help,
     Recover,
     Dkms,
     /// Behind one of dkms's actions on archives.
-    Archive(&'a str),
-    Add(Seen<'a>),
+    Archive(Text),
+    /// Behind an action of dkms and parts.
+    Parts(Seen),
 }
 
 fn is_archive(word: &str) -> bool
@@ -37,8 +35,20 @@ fn is_archive(word: &str) -> bool
         || word == "mkkmp"
 }
 
-fn after_start(word: &str) -> Option<Progress<'_>>
-    ensures { option_map view_state result ≡ spec.after_start word.now }
+fn action_named(word: &str) -> Option<DkmsAction>
+    ensures { result ≡ spec.action_named word.now }
+{
+    if word == "add" {
+        Some(DkmsAction::Add)
+    } else if word == "status" {
+        Some(DkmsAction::Status)
+    } else {
+        None
+    }
+}
+
+fn after_start(word: &str) -> Option<Progress>
+    ensures { result ≡ spec.after_start word.now }
 {
     if word == "help" {
         Some(Progress::Help)
@@ -51,68 +61,45 @@ fn after_start(word: &str) -> Option<Progress<'_>>
     }
 }
 
-fn after_dkms(word: &str) -> Option<Progress<'_>>
-    ensures { option_map view_state result ≡ spec.after_dkms word.now }
+fn after_dkms(alloc: Global, word: &str) -> Result<Option<Progress>, AllocError>
+    ensures { IfOk result (λ next. next ≡ spec.after_dkms word.now) }
 {
-    if word == "add" {
-        Some(Progress::Add(Seen::nothing()))
+    if let Some(action) = action_named(word) {
+        Ok(Some(Progress::Parts(Seen::nothing(alloc, action))))
     } else if is_archive(word) {
-        Some(Progress::Archive(word))
+        Ok(Some(Progress::Archive(Text::of(alloc, word)?)))
     } else {
-        None
+        Ok(None)
     }
 }
 
-/// No command line: refused with this place.
-pub fn usage(place: u64) -> Stop
-    ensures { result ≡ stop.Refused (refusal.Usage place) }
-{
-    Stop::Refused(Refusal::Usage { place })
-}
-
-// `dkms add` and its parts.
-fn end_of_add(alloc: Global, seen: Seen<'_>, place: u64) -> Result<Command, Stop>
-    ensures { IsRead result (spec.read_line place (spec.ended_add (view_seen seen.entry))) }
-{
-    let Some((module, version)) = seen.package() else {
-        return Err(usage(place));
-    };
-    if let Some(name) = seen.bad {
-        let name = Text::of(alloc, name)?;
-        return Err(Stop::Refused(Refusal::BadName { name }));
-    }
-    let module = Text::of(alloc, module)?;
-    let version = Text::of(alloc, version)?;
-    let key = Key { module, version };
-    Ok(Command::Add { key })
-}
-
-impl<'a> Progress<'a> {
+impl Progress {
     /// With one word more, where some command line goes on so.
-    pub fn after(self, word: &'a str) -> Option<Self>
-        ensures { option_map view_state result ≡ spec.after_word (view_state self.entry) word.now }
+    pub fn after(self, alloc: Global, word: &str) -> Result<Option<Self>, AllocError>
+        ensures { IfOk result (λ next. next ≡ spec.after_word self word.now) }
     {
         match self {
-            Progress::Start => after_start(word),
-            Progress::Help | Progress::Recover => None,
-            Progress::Dkms => after_dkms(word),
-            Progress::Archive(_) => Some(self),
-            Progress::Add(seen) => Some(Progress::Add(seen.after(word)?)),
+            Progress::Start => Ok(after_start(word)),
+            Progress::Help | Progress::Recover => Ok(None),
+            Progress::Dkms => after_dkms(alloc, word),
+            Progress::Archive(action) => Ok(Some(Progress::Archive(action))),
+            Progress::Parts(seen) => match seen.after(alloc, word)? {
+                Some(more) => Ok(Some(Progress::Parts(more))),
+                None => Ok(None),
+            },
         }
     }
 
     /// The command, where the words end here. Refused with this place where no command line does.
-    pub fn end(self, alloc: Global, place: u64) -> Result<Command, Stop>
-        ensures { IsRead result (spec.read_line place (spec.ended (view_state self.entry))) }
+    pub fn end(self, place: u64) -> Result<Command, Stop>
+        ensures { IsRead result (spec.read_line place (spec.ended self)) }
     {
         match self {
             Progress::Start | Progress::Dkms => Err(usage(place)),
             Progress::Help => Ok(Command::Help),
             Progress::Recover => Ok(Command::Recover),
-            Progress::Archive(word) => Err(Stop::Refused(Refusal::Archive {
-                word: Text::of(alloc, word)?,
-            })),
-            Progress::Add(seen) => end_of_add(alloc, seen, place),
+            Progress::Archive(word) => Err(Stop::Refused(Refusal::Archive { word })),
+            Progress::Parts(seen) => seen.end(place),
         }
     }
 }
