@@ -1,12 +1,14 @@
-"""A scratch root in which `hello/1.0` can be added, for the scripts that cut `dkms add` off."""
+"""Scratch roots in which a package can be added, for the scripts that cut `dkms add` off."""
 import os
 import subprocess
 import tempfile
 
 TOP = os.path.join(os.path.dirname(os.path.abspath(__file__)), "..")
-ADD = ["dkms", "add", "hello/1.0"]
 CONF = 'PACKAGE_NAME="hello"\nPACKAGE_VERSION="1.0"\nPOST_ADD="post.sh"\n'
-DIRECTORIES = ["var/lib/dkms", "usr/src/hello-1.0", "usr/lib", "lib/modules", "boot", "etc", "proc"]
+SCRIPT = "#!/bin/sh\nexit 0\n"
+SOURCE = "usr/src/hello-1.0"
+TREE = "home/hello"
+DIRECTORIES = ["var/lib/dkms", "usr/src", "usr/lib", "lib/modules", "boot", "etc", "proc"]
 ALREADY_ADDED = 4
 
 
@@ -16,19 +18,51 @@ def built_program():
     return subprocess.run([tool, "kmodboot"], stdout=subprocess.PIPE, text=True, check=True).stdout.strip()
 
 
-def make_root(root=None):
-    """A root, at this path if one is given, with the source of the package, its conf and a script that changes nothing."""
-    root = root or os.path.realpath(tempfile.mkdtemp())
-    for directory in DIRECTORIES:
-        os.makedirs(os.path.join(root, directory))
-    source = os.path.join(root, "usr/src/hello-1.0")
-    with open(os.path.join(source, "dkms.conf"), "w") as conf:
-        conf.write(CONF)
-    script = os.path.join(source, "post.sh")
-    with open(script, "w") as text:
-        text.write("#!/bin/sh\nexit 0\n")
-    os.chmod(script, 0o755)
-    return root
+def put(path, text, mode=0o644):
+    os.makedirs(os.path.dirname(path), exist_ok=True)
+    with open(path, "w") as file:
+        file.write(text)
+    os.chmod(path, mode)
+
+
+def put_source(directory):
+    """The conf of the package and a script that changes nothing."""
+    put(os.path.join(directory, "dkms.conf"), CONF)
+    put(os.path.join(directory, "post.sh"), SCRIPT, 0o755)
+
+
+def put_ten_files(directory):
+    """Ten files, two of them with the execute bit, a link, and directories, one of them empty."""
+    put_source(directory)
+    put(os.path.join(directory, "tools/sign"), SCRIPT, 0o755)
+    for number in range(7):
+        put(os.path.join(directory, f"src/{number}.c"), f"int x{number};\n" * number)
+    os.symlink("src", os.path.join(directory, "include"))
+    os.mkdir(os.path.join(directory, "empty"))
+
+
+class Scene:
+    """A root, and the words by which the package is added in it."""
+
+    def __init__(self, name, source, put_all, last_word):
+        self.name, self.source, self.put_all, self.last_word = name, source, put_all, last_word
+
+    def words(self, root):
+        return ["dkms", "add", self.last_word.replace("ROOT", root)]
+
+    def make_root(self, root=None):
+        """The root, at this path if one is given."""
+        root = root or os.path.realpath(tempfile.mkdtemp())
+        for directory in DIRECTORIES:
+            os.makedirs(os.path.join(root, directory))
+        self.put_all(os.path.join(root, self.source))
+        return root
+
+
+SCENES = [
+    Scene("a package by its name", SOURCE, put_source, "hello/1.0"),
+    Scene("a directory of ten files", TREE, put_ten_files, f"ROOT/{TREE}"),
+]
 
 
 def tree_of(root):
@@ -58,9 +92,9 @@ def call(program, root, words):
     return subprocess.run([program, *words], env=environment, capture_output=True, text=True, check=False)
 
 
-def why_repeat_is_wrong(program, root, whole):
+def why_repeat_is_wrong(program, scene, root, whole):
     """None where `dkms add`, repeated, ends in the tree of a whole run; else what it said."""
-    again = call(program, root, ADD)
+    again = call(program, root, scene.words(root))
     behind = call(program, root, ["recover"])
     ended = again.returncode in (0, ALREADY_ADDED)
     if ended and behind.stdout == "nothing to recover\n" and tree_of(root) == whole:
