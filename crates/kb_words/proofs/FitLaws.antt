@@ -1,8 +1,8 @@
 -- What is seen of parts agrees, and can be completed to a line.
 use Rattle.std.proofs.Common.{◌≡◌, Bool, true, false, not, ◌&&◌, ◌||◌, List, [], ◌∷◌, Option, Some, None, is_some, refl, sym, ap, ◌∙◌, subst, true≢false, codes}
 use Rattle.std.specs.List.{list_all, flat_map}
-use Rattle.kb_words.specs.declared.parts.Action.{Action}
-use Rattle.kb_words.specs.declared.parts.Action.TheVariants as action
+use Rattle.kb_words.specs.declared.parts.DkmsAction.{DkmsAction}
+use Rattle.kb_words.specs.declared.parts.DkmsAction.TheVariants as action
 use Rattle.kb_words.specs.declared.parts.Argument.{Argument}
 use Rattle.kb_words.specs.declared.parts.Argument.TheVariants as argument
 use Rattle.kb_words.specs.declared.parts.Seen.{Seen}
@@ -20,7 +20,7 @@ pub record Fits (seen : Seen) : Type 0 where
   pub taken : seen.bare ≡ true → takes_bare_module seen.action ≡ true
   pub room : (it : Argument) → seen.awaited ≡ Some it → may_await seen it ≡ true
 
-pub nothing_fits : (it : Action) → Fits (nothing it)
+pub nothing_fits : (it : DkmsAction) → Fits (nothing it)
 nothing_fits it = record { name = λ h. cc; version = λ h. refl; taken = λ h. cc; room = λ of h. absurd (none_some of h) }
 
 neither : (a b : Bool) → (a || b) ≡ false → (a ≡ false) × (b ≡ false)
@@ -107,7 +107,7 @@ record CanEnd (seen : Seen) : Type 0 where
   line : Line
   line_is : line_after seen parts ≡ Some line
 
-abbrev seen_as : Action → Option Argument → Option Word → Option Word → Bool → List Word → List Word → Option Word → Seen
+abbrev seen_as : DkmsAction → Option Argument → Option Word → Option Word → Bool → List Word → List Word → Option Word → Seen
 seen_as it awaited name version bare kernels arches bad = record {
   action = it;
   awaited = awaited;
@@ -128,7 +128,7 @@ can_end seen fits = by_fields seen.action seen.awaited seen.module seen.version 
     a_version : Part
     a_version = Version (codes "1")
 
-    by_fields : (it : Action) (awaited : Option Argument) (name version : Option Word) (bare : Bool) (kernels arches : List Word) (bad : Option Word)
+    by_fields : (it : DkmsAction) (awaited : Option Argument) (name version : Option Word) (bare : Bool) (kernels arches : List Word) (bad : Option Word)
         → Fits (seen_as it awaited name version bare kernels arches bad) → CanEnd (seen_as it awaited name version bare kernels arches bad)
     by_fields action.Add awaited (Some name) (Some version) bare kernels arches bad fits = record { parts = []; good = refl; line = _; line_is = refl }
     by_fields action.Add awaited (Some name) None false kernels arches bad fits = record { parts = a_version ∷ []; good = refl; line = _; line_is = refl }

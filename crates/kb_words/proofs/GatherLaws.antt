@@ -7,8 +7,8 @@ use Rattle.kb_world.specs.Names.{is_word, is_version, is_kernel, is_arch}
 use Rattle.kb_world.specs.declared.job.Key.{Key}
 use Rattle.kb_world.specs.declared.job.Spot.{Spot}
 use Rattle.kb_words.specs.declared.command.Command.TheVariants as command
-use Rattle.kb_words.specs.declared.parts.Action.{Action}
-use Rattle.kb_words.specs.declared.parts.Action.TheVariants as action
+use Rattle.kb_words.specs.declared.parts.DkmsAction.{DkmsAction}
+use Rattle.kb_words.specs.declared.parts.DkmsAction.TheVariants as action
 use Rattle.kb_words.specs.declared.parts.Argument.TheVariants as argument
 use Rattle.kb_words.specs.declared.parts.Seen.{Seen}
 use Rattle.kb_words.specs.Words.{Word, Part, Package, BareModule, Module, Version, Kernel, KernelArch, Arch, may_follow, is_bare, module_in, version_in, kernel_in, arch_in, first_bad, if_it_breaks, Line}
@@ -75,31 +75,31 @@ none_first (Some x) more h = cc
 
 -- ---- the parts that the walk takes are those that may follow the action
 
-package_follows : (it : Action) (key : Key) → may_follow it (Package key) ≡ true
+package_follows : (it : DkmsAction) (key : Key) → may_follow it (Package key) ≡ true
 package_follows action.Add key = refl
 package_follows action.Status key = refl
 
-bare_follows : (it : Action) (name : Word) → takes_bare_module it ≡ may_follow it (BareModule name)
+bare_follows : (it : DkmsAction) (name : Word) → takes_bare_module it ≡ may_follow it (BareModule name)
 bare_follows action.Add name = refl
 bare_follows action.Status name = refl
 
-module_follows : (it : Action) (name : Word) → takes it argument.Module ≡ may_follow it (Module name)
+module_follows : (it : DkmsAction) (name : Word) → takes it argument.Module ≡ may_follow it (Module name)
 module_follows action.Add name = refl
 module_follows action.Status name = refl
 
-version_follows : (it : Action) (name : Word) → takes it argument.Version ≡ may_follow it (Version name)
+version_follows : (it : DkmsAction) (name : Word) → takes it argument.Version ≡ may_follow it (Version name)
 version_follows action.Add name = refl
 version_follows action.Status name = refl
 
-kernel_follows : (it : Action) (name : Word) → takes it argument.Kernel ≡ may_follow it (Kernel name)
+kernel_follows : (it : DkmsAction) (name : Word) → takes it argument.Kernel ≡ may_follow it (Kernel name)
 kernel_follows action.Add name = refl
 kernel_follows action.Status name = refl
 
-spot_follows : (it : Action) (spot : Spot) → takes it argument.Kernel ≡ may_follow it (KernelArch spot)
+spot_follows : (it : DkmsAction) (spot : Spot) → takes it argument.Kernel ≡ may_follow it (KernelArch spot)
 spot_follows action.Add spot = refl
 spot_follows action.Status spot = refl
 
-arch_follows : (it : Action) (name : Word) → takes it argument.Arch ≡ may_follow it (Arch name)
+arch_follows : (it : DkmsAction) (name : Word) → takes it argument.Arch ≡ may_follow it (Arch name)
 arch_follows action.Add name = refl
 arch_follows action.Status name = refl
 
@@ -361,7 +361,7 @@ all_out (part ∷ rest) seen line fits is =
     record { last = out.last; gathers = step_out seen part rest out.last found.0 out.gathers; fits = out.fits; line_is = out.line_is }
 
 -- a command is made of these fields
-same_command : (it : Action) (a b : Seen) → a.module ≡ b.module → a.version ≡ b.version → a.kernels ≡ b.kernels → a.arches ≡ b.arches → command_by it a ≡ command_by it b
+same_command : (it : DkmsAction) (a b : Seen) → a.module ≡ b.module → a.version ≡ b.version → a.kernels ≡ b.kernels → a.arches ≡ b.arches → command_by it a ≡ command_by it b
 same_command action.Add a b name version kernels arches = (λ i. add_of (name i) (version i))
 same_command action.Status a b name version kernels arches =
     (λ i. cond (is_some (version i) && not (is_some (name i))) None

@@ -6,8 +6,8 @@ use Rattle.std.specs.Cmp.Lexicographic.{bytes_decides}
 use Rattle.kb_world.specs.Path.{Path, path_text}
 use Rattle.kb_words.specs.declared.command.Command.{Command}
 use Rattle.kb_words.specs.declared.command.Command.TheVariants as command
-use Rattle.kb_words.specs.declared.parts.Action.{Action}
-use Rattle.kb_words.specs.declared.parts.Action.TheVariants as action
+use Rattle.kb_words.specs.declared.parts.DkmsAction.{DkmsAction}
+use Rattle.kb_words.specs.declared.parts.DkmsAction.TheVariants as action
 use Rattle.kb_words.specs.declared.parts.Seen.{Seen}
 use Rattle.kb_words.specs.declared.progress.Progress.{Progress}
 use Rattle.kb_words.specs.declared.progress.Progress.TheVariants.{Start, Help, Recover, Dkms, Archive, Add, Tree, Parts}
@@ -34,10 +34,10 @@ other_word word text other same = true≢false (sym ((bytes_decides word text).1
 
 -- ---- the words of the actions
 
-named_from : (word : Word) (it : Action) → action_named word ≡ Some it → word ≡ action_word it
+named_from : (word : Word) (it : DkmsAction) → action_named word ≡ Some it → word ≡ action_word it
 named_from word it h = by_case (bytes_eq word (codes "add")) (bytes_eq word (codes "status")) refl refl h
   where
-    this : (known : Action) → word ≡ action_word known → Some known ≡ Some it → word ≡ action_word it
+    this : (known : DkmsAction) → word ≡ action_word known → Some known ≡ Some it → word ≡ action_word it
     this known at e = at ∙ ap action_word (same_some known it e)
 
     by_case : (a s : Bool) → bytes_eq word (codes "add") ≡ a → bytes_eq word (codes "status") ≡ s → cond a (Some action.Add) (cond s (Some action.Status) None) ≡ Some it → word ≡ action_word it
@@ -46,14 +46,14 @@ named_from word it h = by_case (bytes_eq word (codes "add")) (bytes_eq word (cod
     by_case false false ea es e = absurd (none_some it e)
 
 -- an action on archives is none of them
-no_archive : (it : Action) → is_archive (action_word it) ≡ false
+no_archive : (it : DkmsAction) → is_archive (action_word it) ≡ false
 no_archive action.Add = refl
 no_archive action.Status = refl
 
 archive_goes : (word : Word) → is_archive word ≡ true → after_dkms word ≡ Some (Archive word)
 archive_goes word is = by_case (action_named word) refl
   where
-    by_case : (found : Option Action) → action_named word ≡ found → after_dkms word ≡ Some (Archive word)
+    by_case : (found : Option DkmsAction) → action_named word ≡ found → after_dkms word ≡ Some (Archive word)
     by_case None e = ap (action_or_archive word) e ∙ ap (λ b. cond b (Some (Archive word)) None) is
     by_case (Some it) e = absurd (true≢false (sym is ∙ ap is_archive (named_from word it e) ∙ no_archive it))
 
@@ -62,7 +62,7 @@ archive_goes word is = by_case (action_named word) refl
 abbrev GoesOn : Progress → Word → List Word → Line → Type 0
 GoesOn state word rest line = (next : Progress) × (after_word state word ≡ Some next) × Rest next rest line
 
-dkms_goes : (it : Action) (IsMeant : List Part → Type 0) (word : Word) (rest : List Word) (bad : Option Word) → IsActionLine it IsMeant (word ∷ rest) bad
+dkms_goes : (it : DkmsAction) (IsMeant : List Part → Type 0) (word : Word) (rest : List Word) (bad : Option Word) → IsActionLine it IsMeant (word ∷ rest) bad
     → (after_word Start word ≡ Some Dkms) × IsActionLine it IsMeant (codes "dkms" ∷ rest) bad
 dkms_goes it IsMeant word rest bad is =
     let behind = action_word it ∷ is.behind in (
@@ -78,7 +78,7 @@ dkms_goes it IsMeant word rest bad is =
     )
 
 -- the parts behind an action make the line
-action_completes : (it : Action) (IsMeant : List Part → Type 0) (asked : Command) (rest : List Word) (bad : Option Word) → IsActionLine it IsMeant (codes "dkms" ∷ action_word it ∷ rest) bad
+action_completes : (it : DkmsAction) (IsMeant : List Part → Type 0) (asked : Command) (rest : List Word) (bad : Option Word) → IsActionLine it IsMeant (codes "dkms" ∷ action_word it ∷ rest) bad
     → ((parts : List Part) → list_all (may_follow it) parts ≡ true → IsMeant parts → line_after (nothing it) parts ≡ Some (ForCommand asked (first_bad parts)))
     → Completes (nothing it) rest (ForCommand asked bad)
 action_completes it IsMeant asked rest bad is means =
@@ -91,7 +91,7 @@ action_completes it IsMeant asked rest bad is means =
     }
 
 -- the word of the action
-action_is : (it : Action) (IsMeant : List Part → Type 0) (word : Word) (rest : List Word) (bad : Option Word) → IsActionLine it IsMeant (codes "dkms" ∷ word ∷ rest) bad → word ≡ action_word it
+action_is : (it : DkmsAction) (IsMeant : List Part → Type 0) (word : Word) (rest : List Word) (bad : Option Word) → IsActionLine it IsMeant (codes "dkms" ∷ word ∷ rest) bad → word ≡ action_word it
 action_is it IsMeant word rest bad is = heads word (action_word it) rest is.behind (tails (codes "dkms") (codes "dkms") (word ∷ rest) (action_word it ∷ is.behind) is.are)
 
 add_goes : (word : Word) → word ≡ codes "add" → after_dkms word ≡ Some Add
@@ -167,7 +167,7 @@ help_comes word rest line at is = subst (IsLine (word ∷ rest)) (sym is.1) ((λ
 recover_comes : (word : Word) (rest : List Word) (line : Line) → word ≡ codes "recover" → Rest Recover rest line → IsLine (word ∷ rest) line
 recover_comes word rest line at is = subst (IsLine (word ∷ rest)) (sym is.1) ((λ i. at i ∷ is.0 i), refl)
 
-action_line : (it : Action) (IsMeant : List Part → Type 0) (asked : Command) (word : Word) (rest : List Word) (line : Line) → word ≡ action_word it
+action_line : (it : DkmsAction) (IsMeant : List Part → Type 0) (asked : Command) (word : Word) (rest : List Word) (line : Line) → word ≡ action_word it
     → (c : Completes (nothing it) rest line) → IsMeaning it IsMeant asked c.parts line → IsActionLine it IsMeant (codes "dkms" ∷ word ∷ rest) (first_bad c.parts)
 action_line it IsMeant asked word rest line at c means = record {
   behind = rest;
@@ -178,7 +178,7 @@ action_line it IsMeant asked word rest line at c means = record {
   bad_is = refl;
 }
 
-action_comes : (it : Action) (word : Word) (rest : List Word) (line : Line) → word ≡ action_word it → Completes (nothing it) rest line → IsLine (codes "dkms" ∷ word ∷ rest) line
+action_comes : (it : DkmsAction) (word : Word) (rest : List Word) (line : Line) → word ≡ action_word it → Completes (nothing it) rest line → IsLine (codes "dkms" ∷ word ∷ rest) line
 action_comes action.Add word rest line at c =
     let (key, means) = add_out c.parts line c.line_is in
     subst (IsLine (codes "dkms" ∷ word ∷ rest)) (sym means.line_is) (action_line action.Add (λ parts. NamePackage parts key) (command.Add key) word rest line at c means)
@@ -202,7 +202,7 @@ comes_from Help next word rest line e is = absurd (none_some next e)
 comes_from Recover next word rest line e is = absurd (none_some next e)
 comes_from Dkms next word rest line e is = by_action (action_named word) refl e
   where
-    by_action : (found : Option Action) → action_named word ≡ found → action_or_archive word found ≡ Some next → IsLine (codes "dkms" ∷ word ∷ rest) line
+    by_action : (found : Option DkmsAction) → action_named word ≡ found → action_or_archive word found ≡ Some next → IsLine (codes "dkms" ∷ word ∷ rest) line
     by_action (Some action.Add) en e = subst (λ first. IsLine (codes "dkms" ∷ first ∷ rest) line) (sym (named_from word action.Add en)) (rest_as Add next rest line e is)
     by_action (Some action.Status) en e = action_comes action.Status word rest line (named_from word action.Status en) (rest_as (Parts (nothing action.Status)) next rest line e is)
     by_action None en e =
@@ -242,7 +242,7 @@ ends Add line is = absurd (none_some line is)
 ends (Tree path) line is = (refl, sym (same_some (ForCommand (command.AddTree path) None) line is))
 ends (Parts seen) line is = parts_end seen line is
 
-no_action : (it : Action) (IsMeant : List Part → Type 0) (bad : Option Word) → IsActionLine it IsMeant (codes "dkms" ∷ []) bad → ⊥
+no_action : (it : DkmsAction) (IsMeant : List Part → Type 0) (bad : Option Word) → IsActionLine it IsMeant (codes "dkms" ∷ []) bad → ⊥
 no_action it IsMeant bad is = no_head (action_word it) is.behind (sym (tails (codes "dkms") (codes "dkms") [] (action_word it ∷ is.behind) is.are))
 
 dkms_alone : (line : Line) → IsLine (codes "dkms" ∷ []) line → ⊥
@@ -320,7 +320,7 @@ open_after Help next word e agrees = absurd (none_some next e)
 open_after Recover next word e agrees = absurd (none_some next e)
 open_after Dkms next word e agrees = by_action (action_named word) e
   where
-    by_action : (found : Option Action) → action_or_archive word found ≡ Some next → IsOpen next
+    by_action : (found : Option DkmsAction) → action_or_archive word found ≡ Some next → IsOpen next
     by_action (Some action.Add) e = open_as Add next tt e
     by_action (Some action.Status) e = open_as (Parts (nothing action.Status)) next (nothing_fits action.Status) e
     by_action None e = open_as (Archive word) next tt (found_where (is_archive word) (Some (Archive word)) next e).1

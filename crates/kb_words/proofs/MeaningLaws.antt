@@ -6,8 +6,8 @@ use Rattle.kb_world.specs.declared.job.Filter.{Filter}
 use Rattle.kb_world.specs.declared.job.Key.{Key}
 use Rattle.kb_words.specs.declared.command.Command.{Command}
 use Rattle.kb_words.specs.declared.command.Command.TheVariants as command
-use Rattle.kb_words.specs.declared.parts.Action.{Action}
-use Rattle.kb_words.specs.declared.parts.Action.TheVariants as action
+use Rattle.kb_words.specs.declared.parts.DkmsAction.{DkmsAction}
+use Rattle.kb_words.specs.declared.parts.DkmsAction.TheVariants as action
 use Rattle.kb_words.specs.declared.parts.Seen.{Seen}
 use Rattle.kb_words.specs.Words.{Word, Part, Package, BareModule, Module, Version, Kernel, KernelArch, Arch, may_follow, is_bare, module_in, version_in, kernel_in, arch_in, first_bad, NamePackage, NameFilter, Line, ForCommand}
 use Rattle.kb_words.specs.Reading.{nothing, add_of, command_by, line_for}
@@ -18,7 +18,7 @@ use Rattle.kb_words.proofs.GatherLaws.{Gathers, Ends, all_out, all_in}
 -- ---- what the parts of each action mean
 
 -- behind this action these parts mean that, and are this line
-pub record IsMeaning (it : Action) (IsMeant : List Part → Type 0) (asked : Command) (parts : List Part) (line : Line) : Type 0 where
+pub record IsMeaning (it : DkmsAction) (IsMeant : List Part → Type 0) (asked : Command) (parts : List Part) (line : Line) : Type 0 where
   pub follow : list_all (may_follow it) parts ≡ true
   pub meant : IsMeant parts
   pub line_is : line ≡ ForCommand asked (first_bad parts)
@@ -52,7 +52,7 @@ add_out parts line is =
     by_names out (Some name) None en ev h = absurd (none_some line h)
 
 -- what was seen behind all parts
-abbrev seen_of : Action → Option Word → Option Word → List Part → Seen
+abbrev seen_of : DkmsAction → Option Word → Option Word → List Part → Seen
 seen_of it name version parts = record {
   action = it;
   awaited = None;
@@ -64,7 +64,7 @@ seen_of it name version parts = record {
   bad = first_bad parts;
 }
 
-gathers_all : (it : Action) (name version : Option Word) (parts : List Part) → list_all (may_follow it) parts ≡ true → filter_map module_in parts ≡ option_to_list name
+gathers_all : (it : DkmsAction) (name version : Option Word) (parts : List Part) → list_all (may_follow it) parts ≡ true → filter_map module_in parts ≡ option_to_list name
     → filter_map version_in parts ≡ option_to_list version → Gathers (nothing it) parts (seen_of it name version parts)
 gathers_all it name version parts follow names versions = record {
   action = refl;

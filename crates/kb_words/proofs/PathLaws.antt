@@ -5,7 +5,7 @@ use Rattle.std.specs.Str.{byte}
 use Rattle.kb_world.specs.Names.{is_name}
 use Rattle.kb_world.specs.Path.{Path, IsPath, path_text}
 use Rattle.kb_world.proofs.PathText.{path_text_begins, names_of_text, path_text-slice_split, same_path}
-use Rattle.kb_words.specs.declared.parts.Action.TheVariants as action
+use Rattle.kb_words.specs.declared.parts.DkmsAction.TheVariants as action
 use Rattle.kb_words.specs.declared.parts.Seen.{Seen}
 use Rattle.kb_words.specs.Words.{Word}
 use Rattle.kb_words.specs.Reading.{nothing, names_if_all, names_behind_slash, path_read, seen_after, begun}

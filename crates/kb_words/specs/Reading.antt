@@ -11,8 +11,8 @@ use Rattle.kb_world.specs.declared.refusal.Refusal.{Refusal}
 use Rattle.kb_world.specs.declared.refusal.Refusal.TheVariants as refusal
 use Rattle.kb_words.specs.declared.command.Command.{Command}
 use Rattle.kb_words.specs.declared.command.Command.TheVariants as command
-use Rattle.kb_words.specs.declared.parts.Action.{Action}
-use Rattle.kb_words.specs.declared.parts.Action.TheVariants as action
+use Rattle.kb_words.specs.declared.parts.DkmsAction.{DkmsAction}
+use Rattle.kb_words.specs.declared.parts.DkmsAction.TheVariants as action
 use Rattle.kb_words.specs.declared.parts.Argument.{Argument}
 use Rattle.kb_words.specs.declared.parts.Argument.TheVariants as argument
 use Rattle.kb_words.specs.declared.parts.Seen.{Seen}
@@ -63,7 +63,7 @@ part_behind argument.Arch word = Arch word
 
 -- ---- what the words of the parts read so far say
 
-abbrev pub nothing : Action → Seen
+abbrev pub nothing : DkmsAction → Seen
 nothing it = record { action = it; awaited = None; «module» = None; version = None; bare = false; kernels = []; arches = []; bad = None }
 
 abbrev pub with_module : Seen → Word → Seen
@@ -88,7 +88,7 @@ with_part seen (KernelArch spot) = with_arch (with_kernel seen spot.kernel) spot
 with_part seen (Arch name) = with_arch seen name
 
 -- the action has an option with this argument
-abbrev pub takes : Action → Argument → Bool
+abbrev pub takes : DkmsAction → Argument → Bool
 takes action.Add argument.Module = true
 takes action.Add argument.Version = true
 takes action.Add argument.Kernel = false
@@ -96,7 +96,7 @@ takes action.Add argument.Arch = false
 takes action.Status it = true
 
 -- a module may stand alone behind the action
-abbrev pub takes_bare_module : Action → Bool
+abbrev pub takes_bare_module : DkmsAction → Bool
 takes_bare_module action.Add = false
 takes_bare_module action.Status = true
 
@@ -112,7 +112,7 @@ abbrev pub with_option : Seen → Argument → Option Seen
 with_option seen it = cond (takes seen.action it && not (given seen it)) (Some (record seen { awaited = Some it })) None
 
 -- the action takes such a word
-abbrev pub takes_word : Action → Part → Bool
+abbrev pub takes_word : DkmsAction → Part → Bool
 takes_word it (BareModule name) = takes_bare_module it
 takes_word it part = true
 
@@ -141,15 +141,15 @@ after_start word =
     cond (bytes_eq word (codes "help")) (Some progress.Help)
     (cond (bytes_eq word (codes "recover")) (Some progress.Recover) (cond (bytes_eq word (codes "dkms")) (Some progress.Dkms) None))
 
-abbrev pub action_named : Word → Option Action
+abbrev pub action_named : Word → Option DkmsAction
 action_named word = cond (bytes_eq word (codes "add")) (Some action.Add) (cond (bytes_eq word (codes "status")) (Some action.Status) None)
 
 -- where the walk stands behind an action
-abbrev pub behind_action : Action → Progress
+abbrev pub behind_action : DkmsAction → Progress
 behind_action action.Add = progress.Add
 behind_action action.Status = progress.Parts (nothing action.Status)
 
-abbrev pub action_or_archive : Word → Option Action → Option Progress
+abbrev pub action_or_archive : Word → Option DkmsAction → Option Progress
 action_or_archive word None = cond (is_archive word) (Some (progress.Archive word)) None
 action_or_archive word (Some it) = Some (behind_action it)
 
@@ -200,7 +200,7 @@ status_of seen =
     cond (is_some seen.version && not (is_some seen.module)) None
     (Some (command.Status (record { «module» = seen.module; version = seen.version; kernels = seen.kernels; arches = seen.arches })))
 
-abbrev pub command_by : Action → Seen → Option Command
+abbrev pub command_by : DkmsAction → Seen → Option Command
 command_by action.Add seen = add_of seen.module seen.version
 command_by action.Status seen = status_of seen
 

@@ -13,8 +13,8 @@ use Rattle.kb_world.specs.declared.refusal.Refusal.{Refusal}
 use Rattle.kb_world.specs.declared.refusal.Refusal.TheVariants as refusal
 use Rattle.kb_words.specs.declared.command.Command.{Command}
 use Rattle.kb_words.specs.declared.command.Command.TheVariants as command
-use Rattle.kb_words.specs.declared.parts.Action.{Action}
-use Rattle.kb_words.specs.declared.parts.Action.TheVariants as action
+use Rattle.kb_words.specs.declared.parts.DkmsAction.{DkmsAction}
+use Rattle.kb_words.specs.declared.parts.DkmsAction.TheVariants as action
 
 abbrev pub Word : Type 0
 Word = List ℕ
@@ -90,7 +90,7 @@ is_of_package (Version name) = true
 is_of_package other = false
 
 -- the parts that may stand behind an action: a package behind `add`, and all behind `status`
-abbrev pub may_follow : Action → Part → Bool
+abbrev pub may_follow : DkmsAction → Part → Bool
 may_follow action.Add part = is_of_package part
 may_follow action.Status part = true
 
@@ -140,7 +140,7 @@ first_bad [] = None
 first_bad (part ∷ rest) = option_or (bad_in part) (first_bad rest)
 
 -- the words are these parts, in any order, which may stand behind the action
-pub record AreParts (it : Action) (words : List Word) (parts : List Part) : Type 0 where
+pub record AreParts (it : DkmsAction) (words : List Word) (parts : List Part) : Type 0 where
   pub are : words ≡ flat_map written parts
   pub good : list_all is_line_part parts ≡ true
   pub behind : list_all (may_follow it) parts ≡ true
@@ -169,13 +169,13 @@ is_archive word =
     codes "mktarball" ∷ codes "ldtarball" ∷ codes "mkrpm" ∷ codes "mkdeb" ∷ codes "mkbmdeb" ∷ codes "mkdsc" ∷ codes "mkdriverdisk" ∷ codes "mkkmp" ∷ []
     )
 
-abbrev pub action_word : Action → Word
+abbrev pub action_word : DkmsAction → Word
 action_word action.Add = codes "add"
 action_word action.Status = codes "status"
 
 -- The words are this action of dkms and parts behind it, in which this name is the first that breaks its rule. The
 -- parts mean what is asked of them.
-pub record IsActionLine (it : Action) (IsMeant : List Part → Type 0) (words : List Word) (bad : Option Word) : Type 0 where
+pub record IsActionLine (it : DkmsAction) (IsMeant : List Part → Type 0) (words : List Word) (bad : Option Word) : Type 0 where
   pub behind : List Word
   pub parts : List Part
   pub are : words ≡ codes "dkms" ∷ action_word it ∷ behind

@@ -15,7 +15,7 @@ use std::alloc::{AllocError, Global};
 
 /// The actions of dkms behind which parts stand.
 #[derive(Clone, Copy, Debug)]
-pub enum Action {
+pub enum DkmsAction {
     Add,
     Status,
 }
@@ -33,7 +33,7 @@ pub enum Argument {
 /// What the words of the parts read so far say.
 #[derive(Debug, Drop)]
 pub struct Seen {
-    pub action: Action,
+    pub action: DkmsAction,
     /// What the next word is, where the last one was an option.
     pub awaited: Option<Argument>,
     pub module: Option<Text>,
@@ -70,17 +70,17 @@ fn argument_behind(word: &str) -> Option<Argument>
     }
 }
 
-impl Action {
+impl DkmsAction {
     // Whether the action has an option with this argument.
     fn takes(self, argument: Argument) -> bool
         ensures { result ≡ spec.takes self argument }
     {
         match self {
-            Action::Add => match argument {
+            DkmsAction::Add => match argument {
                 Argument::Module | Argument::Version => true,
                 Argument::Kernel | Argument::Arch => false,
             },
-            Action::Status => true,
+            DkmsAction::Status => true,
         }
     }
 
@@ -89,8 +89,8 @@ impl Action {
         ensures { result ≡ spec.takes_bare_module self }
     {
         match self {
-            Action::Add => false,
-            Action::Status => true,
+            DkmsAction::Add => false,
+            DkmsAction::Status => true,
         }
     }
 }
@@ -113,7 +113,7 @@ fn bad_so_far(known: Option<Text>, keeps: bool, name: &Text) -> Result<Option<Te
 
 impl Seen {
     /// Behind the action, before the first part.
-    pub fn nothing(alloc: Global, action: Action) -> Self
+    pub fn nothing(alloc: Global, action: DkmsAction) -> Self
         ensures { result ≡ spec.nothing action }
     {
         Seen {
@@ -308,13 +308,13 @@ impl Seen {
             ..
         } = self;
         match action {
-            Action::Add => match (module, version) {
+            DkmsAction::Add => match (module, version) {
                 (Some(module), Some(version)) => Some(Command::Add {
                     key: Key { module, version },
                 }),
                 _ => None,
             },
-            Action::Status => {
+            DkmsAction::Status => {
                 if version.is_some() && module.is_none() {
                     return None;
                 }

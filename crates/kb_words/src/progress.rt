@@ -5,7 +5,7 @@ ghost use Rattle.kb_words.specs.Words.{is_archive};
 ghost use Rattle.kb_words.specs.Reading as spec;
 
 use crate::command::Command;
-use crate::parts::{Action, Seen, usage};
+use crate::parts::{DkmsAction, Seen, usage};
 use kb_world::{Path, PathError, Refusal, Stop, Text};
 use std::alloc::{AllocError, Global};
 
@@ -39,13 +39,13 @@ fn is_archive(word: &str) -> bool
         || word == "mkkmp"
 }
 
-fn action_named(word: &str) -> Option<Action>
+fn action_named(word: &str) -> Option<DkmsAction>
     ensures { result ≡ spec.action_named word.now }
 {
     if word == "add" {
-        Some(Action::Add)
+        Some(DkmsAction::Add)
     } else if word == "status" {
-        Some(Action::Status)
+        Some(DkmsAction::Status)
     } else {
         None
     }
@@ -65,12 +65,12 @@ fn after_start(word: &str) -> Option<Progress>
     }
 }
 
-fn behind_action(alloc: Global, action: Action) -> Progress
+fn behind_action(alloc: Global, action: DkmsAction) -> Progress
     ensures { result ≡ spec.behind_action action }
 {
     match action {
-        Action::Add => Progress::Add,
-        Action::Status => Progress::Parts(Seen::nothing(alloc, action)),
+        DkmsAction::Add => Progress::Add,
+        DkmsAction::Status => Progress::Parts(Seen::nothing(alloc, action)),
     }
 }
 
@@ -111,7 +111,7 @@ fn after_add(alloc: Global, word: &str) -> Result<Option<Progress>, AllocError>
 {
     match path_of(alloc, word)? {
         Some(path) => Ok(Some(Progress::Tree(path))),
-        None => after_part(Seen::nothing(alloc, Action::Add), alloc, word),
+        None => after_part(Seen::nothing(alloc, DkmsAction::Add), alloc, word),
     }
 }
 
