@@ -2,4 +2,5 @@ pub mod KeptLaws
 pub mod LineLaws
 pub mod OrderLaws
 pub mod SortLaws
+pub mod StatusLaws
 pub mod WantLaws

@@ -94,7 +94,7 @@ module _ {X : Type 0} (lt : X → X → Bool) (ranks : IsStrictWeakOrder lt) whe
   first_least : (x : X) (xs : List X) (y : X) → IsSortedBy lt (x ∷ xs) → Contains (x ∷ xs) y → lt y x ≡ false
   first_least x xs y up h = subst (λ z. lt z x ≡ false) h.2 (sorted_far lt ranks (x ∷ xs) up 0 h.0 y (omega arith) h.1)
 
-  sorted_rest : (x : X) (xs : List X) → IsSortedBy lt (x ∷ xs) → IsSortedBy lt xs
+  pub sorted_rest : (x : X) (xs : List X) → IsSortedBy lt (x ∷ xs) → IsSortedBy lt xs
   sorted_rest x xs up = λ k d low row.
       let at = up (suc k) d (omega arith) (omega (arith, row)) in
       let next = subst (λ n. lt (get_or (x ∷ xs) n d) (get_or xs k d) ≡ false) (add-one (suc k)) at in

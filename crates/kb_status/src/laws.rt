@@ -9,7 +9,7 @@ ghost use Rattle.kb_store.specs.declared.store.Store.{Store};
 ghost use Rattle.kb_status.specs.declared.line.Line.{Line};
 ghost use Rattle.kb_status.specs.LineOf.{IsLineOf};
 ghost use Rattle.kb_status.specs.Order.{line_order};
-ghost use Rattle.kb_status.specs.Status.{IsStatus};
+ghost use Rattle.kb_status.specs.Status.{IsStatus, text_of_status};
 
 /// A line stands in a status exactly where it is that of an added version that no build is of,
 /// wanted by a filter that names no kernel and no architecture, or that of a build that the filter
@@ -27,8 +27,10 @@ pub fn the_order_of_lines_is_total()
         line_order a b ≡ Equal → (a.key ≡ b.key) × (a.spot ≡ b.spot) }
 {}
 
-/// A store has one status by a filter.
+/// A store has one status by a filter, and it is the one that is computed.
 pub fn a_store_has_one_status()
-    ensures { (store : Store) (filter : Filter) (a b : List ℕ) →
+    ensures one { (store : Store) (filter : Filter) (a b : List ℕ) →
         IsStatus store filter a → IsStatus store filter b → a ≡ b }
+    ensures computed { (store : Store) (filter : Filter) →
+        IsStatus store filter (text_of_status store filter) }
 {}

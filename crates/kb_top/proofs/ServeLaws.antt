@@ -5,6 +5,7 @@ use Rattle.std.specs.Option.{option_or}
 use Rattle.std.specs.Cmp.Derive.{both_true}
 use Rattle.std.proofs.lemmas.List.{append-nil}
 use Rattle.kb_world.specs.Names.{is_kernel, is_arch}
+use Rattle.kb_world.specs.Path.{Path}
 use Rattle.kb_world.specs.Tree.{Tree, node_at, is_dir}
 use Rattle.kb_world.specs.Roots.{AreApart}
 use Rattle.kb_world.specs.State.{State}
@@ -44,15 +45,29 @@ same_roots_of_add roots a b dkms src = cc
 pub roots_shown : (roots : Roots) → AreApart roots → (tree : Tree) → no_roots_of_add roots tree ≡ no_roots_of_add roots (public_tree roots tree)
 roots_shown roots apart tree = same_roots_of_add roots tree (public_tree roots tree) (sym (shown roots tree roots.dkms (dkms_public roots apart))) (sym (shown roots tree roots.src (src_public roots apart)))
 
--- where no root is missing, the dkms root is a directory
-pub dkms_there : (roots : Roots) (tree : Tree) → no_roots_of_add roots tree ≡ None → is_dir (node_at tree roots.dkms) ≡ true
-dkms_there roots tree none = by (is_dir (node_at tree roots.dkms)) refl
+same_root : (path : Path) (a b : Tree) → node_at a path ≡ node_at b path → no_root path a ≡ no_root path b
+same_root path a b same = cc
+
+pub dkms_shown : (roots : Roots) → AreApart roots → (tree : Tree) → no_root roots.dkms tree ≡ no_root roots.dkms (public_tree roots tree)
+dkms_shown roots apart tree = same_root roots.dkms tree (public_tree roots tree) (sym (shown roots tree roots.dkms (dkms_public roots apart)))
+
+-- a root that isn't missing is a directory
+pub root_there : (path : Path) (tree : Tree) → no_root path tree ≡ None → is_dir (node_at tree path) ≡ true
+root_there path tree none = by (is_dir (node_at tree path)) refl
   where
-    by : (b : Bool) → is_dir (node_at tree roots.dkms) ≡ b → is_dir (node_at tree roots.dkms) ≡ true
+    by : (b : Bool) → is_dir (node_at tree path) ≡ b → is_dir (node_at tree path) ≡ true
     by true e = e
     by false e =
-        let found : no_roots_of_add roots tree ≡ Some (refusal.NoRoot roots.dkms) = ap (λ b. option_or (cond b None (Some (refusal.NoRoot roots.dkms))) (no_root roots.src tree)) e in
-        let impossible : Some (refusal.NoRoot roots.dkms) ≡ None = sym found ∙ none in cc
+        let found : no_root path tree ≡ Some (refusal.NoRoot path) = ap (λ b. cond b None (Some (refusal.NoRoot path))) e in
+        let impossible : Some (refusal.NoRoot path) ≡ None = sym found ∙ none in cc
+
+-- where no root of `dkms add` is missing, the dkms root is a directory
+pub dkms_there : (roots : Roots) (tree : Tree) → no_roots_of_add roots tree ≡ None → is_dir (node_at tree roots.dkms) ≡ true
+dkms_there roots tree none = root_there roots.dkms tree (first_none (no_root roots.dkms tree) (no_root roots.src tree) none)
+  where
+    first_none : (first second : Option Refusal) → option_or first second ≡ None → first ≡ None
+    first_none None second h = refl
+    first_none (Some why) second h = cc
 
 -- what is known of a machine keeps its rules
 kernel_keeps : (kernel : Option (List ℕ)) → is_kernel_if_any (known_kernel kernel) ≡ true

@@ -9,6 +9,7 @@ use Rattle.kb_world.specs.Script.{Script}
 use Rattle.kb_world.specs.Outcome.{Outcome, Action, refuse_if, unless, print, warn, reads, ◌or◌, ◌then◌}
 use Rattle.kb_world.specs.declared.child.Request.{Request}
 use Rattle.kb_world.specs.declared.roots.Roots.{Roots}
+use Rattle.kb_world.specs.declared.job.Filter.{Filter}
 use Rattle.kb_world.specs.declared.job.Key.{Key}
 use Rattle.kb_world.specs.declared.job.Host.{Host}
 use Rattle.kb_world.specs.declared.refusal.Refusal.{Refusal}
@@ -20,6 +21,7 @@ use Rattle.kb_words.specs.declared.command.Command.TheVariants as command
 use Rattle.kb_words.specs.Words.{Word}
 use Rattle.kb_words.specs.Reading.{reading}
 use Rattle.kb_store.specs.Read.{read_of}
+use Rattle.kb_status.specs.Status.{text_of_status}
 use Rattle.kb_dkms.specs.Add.{add}
 
 unfoldable pub help_text : List ℕ
@@ -58,6 +60,7 @@ abbrev pub asks_recovery : Command → Bool
 asks_recovery command.Help = false
 asks_recovery command.Recover = true
 asks_recovery (command.Add key) = false
+asks_recovery (command.Status filter) = false
 
 -- words were read as that command
 abbrev pub is_recovery : {E : Type 0} → Result Command E → Bool
@@ -86,11 +89,20 @@ add_to_store host script key = reads (read_of host.roots) (λ store. add host sc
 abbrev pub perform_add : Host → Script → Key → Action
 perform_add host script key = unless (no_roots_of_add host.roots) then add_to_store host script key
 
+-- the status of the store that is read is printed
+abbrev pub print_status : Roots → Filter → Action
+print_status roots filter = reads (read_of roots) (λ store. print (text_of_status store filter))
+
+-- `dkms status` needs the root dkms alone
+abbrev pub perform_status : Roots → Filter → Action
+perform_status roots filter = unless (no_root roots.dkms) then print_status roots filter
+
 -- a recovery is done and told before
 abbrev pub perform : Host → Script → Command → Action
 perform host script command.Help = print help_text
 perform host script command.Recover = print []
 perform host script (command.Add key) = perform_add host script key
+perform host script (command.Status filter) = perform_status host.roots filter
 
 abbrev pub perform_read : Host → Script → Result Command Refusal → Action
 perform_read host script (Ok it) = perform host script it

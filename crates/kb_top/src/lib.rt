@@ -5,8 +5,10 @@ mod call;
 mod end;
 mod laws;
 mod recovery;
+mod roots;
 mod serve;
 mod setting;
+mod status;
 mod tell;
 
 pub use call::{run, start};

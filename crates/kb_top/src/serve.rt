@@ -5,22 +5,20 @@ ghost use Rattle.kb_world.specs.Public.{intent_path};
 ghost use Rattle.kb_world.specs.Roots.{AreApart};
 ghost use Rattle.kb_world.specs.Store.{is_key};
 ghost use Rattle.kb_world.specs.Tree.{node_at, is_dir};
-ghost use Rattle.kb_world.specs.Does.{Decides};
 ghost use Rattle.kb_machine.specs.Across.{DoesAcrossCrashes};
 ghost use Rattle.kb_dkms.specs.Host.{host_keeps_rules};
 ghost use Rattle.kb_words.specs.Words as words;
-ghost use Rattle.kb_top.specs.Machine.{no_root, no_roots_of_add, help_text, known_kernel, known_arch, known_host, add_to_store, perform_add, perform, machine};
+ghost use Rattle.kb_top.specs.Machine.{help_text, known_kernel, known_arch, known_host, add_to_store, perform_add, perform, machine};
 ghost use Rattle.kb_top.specs.Serve.{Serves};
 ghost use Rattle.kb_top.specs.Telling.{words_found};
 
 use crate::recovery::tell_recovery;
+use crate::roots::require_roots_of_add;
+use crate::status::perform_status;
 use kb_intent::{Recovered, recover};
 use kb_store::Store;
 use kb_words::{Command, read_words};
-use kb_world::{
-    Host, Job, Key, Kind, Path, Refusal, Report, Roots, Sequence, Stop, Text, World, is_arch,
-    is_kernel,
-};
+use kb_world::{Host, Job, Key, Report, Sequence, Stop, Text, World, is_arch, is_kernel};
 use std::alloc::{AllocError, Global};
 
 #[tactic(auto, unfolding(crate::specs::Machine::help_text))]
@@ -28,26 +26,6 @@ fn help() -> &'static str
     ensures { result.now ≡ help_text }
 {
     "usage: kmodboot COMMAND\ncommands: dkms, kernel-install, kernel-hook, recover, selftest, help\n"
-}
-
-// Refused where a root that the command needs isn't a directory.
-fn require_root<W: World>(alloc: Global, world: &mut W, path: &Path) -> Result<(), Stop>
-    ensures { Decides (no_root path.now) (W.state world.old) (W.state world.new) result }
-{
-    match world.look(alloc, path)? {
-        Kind::Dir => Ok(()),
-        _ => Err(Stop::Refused(Refusal::NoRoot {
-            path: path.clone()?,
-        })),
-    }
-}
-
-// Refused where a root that `dkms add` needs isn't a directory.
-fn require_roots_of_add<W: World>(alloc: Global, world: &mut W, roots: &Roots) -> Result<(), Stop>
-    ensures { Decides (no_roots_of_add roots.now) (W.state world.old) (W.state world.new) result }
-{
-    require_root(alloc, world, &roots.dkms)?;
-    require_root(alloc, world, &roots.src)
 }
 
 // The kernel, where it is known and keeps its rule.
@@ -176,6 +154,9 @@ fn perform<W: World>(
         // That is done by now, and told.
         Command::Recover => Ok(()),
         Command::Add { key } => perform_add(alloc, world, job, report, key),
+        Command::Status { filter } => {
+            perform_status(alloc, world, &job.host.roots, report, filter)
+        }
     }
 }
 
