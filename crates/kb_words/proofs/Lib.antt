@@ -4,6 +4,7 @@ pub mod LineLaws
 pub mod MeaningLaws
 pub mod PackageLaws
 pub mod PartLaws
+pub mod PathLaws
 pub mod PlaceLaws
 pub mod SlashLaws
 pub mod WalkLaws

@@ -110,7 +110,7 @@ option_from word it h = by_case (bytes_eq word (codes "-m")) (bytes_eq word (cod
     by_case false false false false em ev ek ea e = cc
 
 -- what begins with no dash is no option
-no_option : (word : Word) → begins_with_dash word ≡ false → argument_behind word ≡ None
+pub no_option : (word : Word) → begins_with_dash word ≡ false → argument_behind word ≡ None
 no_option word plain = by_case (argument_behind word) refl
   where
     dashed : (it : Argument) → begins_with_dash (option_word it) ≡ true

@@ -226,6 +226,7 @@ keeps words (command.Add key) is =
     let good = good_names is.parts (sym is.bad_is) in
     let names = is.meant in
     alone (is_word key.module) (is_version key.version) (sym (ap (list_all is_word) names.module_once) ∙ good.modules) (sym (ap (list_all is_version) names.version_once) ∙ good.versions)
+keeps words (command.AddTree path) is = is.0
 keeps words (command.Status filter) is =
     let good = good_names is.parts (sym is.bad_is) in
     let names = is.meant in

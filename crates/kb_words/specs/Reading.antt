@@ -1,9 +1,10 @@
 -- The reading of words as a function: one walk from left to right.
 use Rattle.std.specs.Prelude.{ℕ, ◌+◌, Bool, true, false, cond, ◌&&◌, ◌||◌, not, List, [], ◌∷◌, ◌++◌, nat_eq, Option, Some, None, is_some, option_map, Result, Err, codes, bytes_eq}
 use Rattle.std.specs.Option.{option_or}
-use Rattle.std.specs.List.{before_first, after_first}
+use Rattle.std.specs.List.{before_first, after_first, list_all, slice_split}
 use Rattle.std.specs.Str.{byte}
-use Rattle.kb_world.specs.Names.{is_word, is_version, is_kernel, is_arch}
+use Rattle.kb_world.specs.Names.{is_name, is_word, is_version, is_kernel, is_arch}
+use Rattle.kb_world.specs.Path.{Path}
 use Rattle.kb_world.specs.declared.job.Key.{Key}
 use Rattle.kb_world.specs.declared.job.Spot.{Spot}
 use Rattle.kb_world.specs.declared.refusal.Refusal.{Refusal}
@@ -143,12 +144,40 @@ after_start word =
 abbrev pub action_named : Word → Option DkmsAction
 action_named word = cond (bytes_eq word (codes "add")) (Some action.Add) (cond (bytes_eq word (codes "status")) (Some action.Status) None)
 
+-- where the walk stands behind an action
+abbrev pub behind_action : DkmsAction → Progress
+behind_action action.Add = progress.Add
+behind_action action.Status = progress.Parts (nothing action.Status)
+
 abbrev pub action_or_archive : Word → Option DkmsAction → Option Progress
 action_or_archive word None = cond (is_archive word) (Some (progress.Archive word)) None
-action_or_archive word (Some it) = Some (progress.Parts (nothing it))
+action_or_archive word (Some it) = Some (behind_action it)
 
 abbrev pub after_dkms : Word → Option Progress
 after_dkms word = action_or_archive word (action_named word)
+
+-- the names behind a slash and between the others, where each is one; nothing stands behind the slash of the root
+abbrev pub names_if_all : Path → Option Path
+names_if_all names = cond (list_all is_name names) (Some names) None
+
+abbrev pub names_behind_slash : Word → Option Path
+names_behind_slash [] = Some []
+names_behind_slash (c ∷ rest) = names_if_all (slice_split (λ d. nat_eq d (byte "/")) (c ∷ rest))
+
+-- the path whose text the word is
+abbrev pub path_read : Word → Option Path
+path_read [] = None
+path_read (c ∷ rest) = cond (nat_eq c (byte "/")) (names_behind_slash rest) None
+
+abbrev pub after_part : Seen → Word → Option Progress
+after_part seen word = option_map progress.Parts (seen_after seen word)
+
+abbrev pub tree_or_part : Word → Option Path → Option Progress
+tree_or_part word None = after_part (nothing action.Add) word
+tree_or_part word (Some path) = Some (progress.Tree path)
+
+abbrev pub after_add : Word → Option Progress
+after_add word = tree_or_part word (path_read word)
 
 -- with one word more, where some command line goes on so
 abbrev pub after_word : Progress → Word → Option Progress
@@ -157,7 +186,9 @@ after_word progress.Help word = None
 after_word progress.Recover word = None
 after_word progress.Dkms word = after_dkms word
 after_word (progress.Archive action) word = Some (progress.Archive action)
-after_word (progress.Parts seen) word = option_map progress.Parts (seen_after seen word)
+after_word progress.Add word = after_add word
+after_word (progress.Tree path) word = None
+after_word (progress.Parts seen) word = after_part seen word
 
 -- the command of an action, where these are given
 abbrev pub add_of : Option Word → Option Word → Option Command
@@ -195,6 +226,8 @@ ended progress.Help = Some (ForCommand command.Help None)
 ended progress.Recover = Some (ForCommand command.Recover None)
 ended progress.Dkms = None
 ended (progress.Archive action) = Some (ForArchive action)
+ended progress.Add = None
+ended (progress.Tree path) = Some (ForCommand (command.AddTree path) None)
 ended (progress.Parts seen) = ended_parts seen
 
 abbrev pub line_behind : (Progress → Option Line) → Option Progress → Option Line

@@ -3,7 +3,8 @@ use Rattle.std.specs.Prelude.{◌≡◌, ℕ, ◌+◌, ◌<◌, ◌≤◌, Bool,
 use Rattle.std.specs.Option.{option_or, option_to_list}
 use Rattle.std.specs.List.{list_all, list_any, filter_map, flat_map}
 use Rattle.std.specs.Str.{byte}
-use Rattle.kb_world.specs.Names.{is_word, is_version, is_kernel, is_arch}
+use Rattle.kb_world.specs.Names.{is_name, is_word, is_version, is_kernel, is_arch}
+use Rattle.kb_world.specs.Path.{IsPath, path_text}
 use Rattle.kb_world.specs.Store.{is_key}
 use Rattle.kb_world.specs.declared.job.Filter.{Filter}
 use Rattle.kb_world.specs.declared.job.Key.{Key}
@@ -192,6 +193,7 @@ abbrev pub IsLine : List Word → Line → Type 0
 IsLine words (ForCommand command.Help bad) = (words ≡ codes "help" ∷ []) × (bad ≡ None)
 IsLine words (ForCommand command.Recover bad) = (words ≡ codes "recover" ∷ []) × (bad ≡ None)
 IsLine words (ForCommand (command.Add key) bad) = IsActionLine action.Add (λ parts. NamePackage parts key) words bad
+IsLine words (ForCommand (command.AddTree path) bad) = IsPath path × (words ≡ codes "dkms" ∷ codes "add" ∷ path_text path ∷ []) × (bad ≡ None)
 IsLine words (ForCommand (command.Status filter) bad) = IsActionLine action.Status (λ parts. NameFilter parts filter) words bad
 IsLine words (ForArchive action) = (behind : List Word) × (words ≡ codes "dkms" ∷ action ∷ behind) × (is_archive action ≡ true)
 
@@ -233,4 +235,5 @@ abbrev pub names_keep_rules : Command → Bool
 names_keep_rules command.Help = true
 names_keep_rules command.Recover = true
 names_keep_rules (command.Add key) = is_key key
+names_keep_rules (command.AddTree path) = list_all is_name path
 names_keep_rules (command.Status filter) = filter_keeps_rules filter

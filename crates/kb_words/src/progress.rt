@@ -6,7 +6,7 @@ ghost use Rattle.kb_words.specs.Reading as spec;
 
 use crate::command::Command;
 use crate::parts::{DkmsAction, Seen, usage};
-use kb_world::{Refusal, Stop, Text};
+use kb_world::{Path, PathError, Refusal, Stop, Text};
 use std::alloc::{AllocError, Global};
 
 /// Where the words read so far end.
@@ -18,6 +18,10 @@ pub enum Progress {
     Dkms,
     /// Behind one of dkms's actions on archives.
     Archive(Text),
+    /// Behind `dkms add`.
+    Add,
+    /// Behind `dkms add` and this path.
+    Tree(Path),
     /// Behind an action of dkms and parts.
     Parts(Seen),
 }
@@ -61,15 +65,53 @@ fn after_start(word: &str) -> Option<Progress>
     }
 }
 
+fn behind_action(alloc: Global, action: DkmsAction) -> Progress
+    ensures { result ≡ spec.behind_action action }
+{
+    match action {
+        DkmsAction::Add => Progress::Add,
+        DkmsAction::Status => Progress::Parts(Seen::nothing(alloc, action)),
+    }
+}
+
 fn after_dkms(alloc: Global, word: &str) -> Result<Option<Progress>, AllocError>
     ensures { IfOk result (λ next. next ≡ spec.after_dkms word.now) }
 {
     if let Some(action) = action_named(word) {
-        Ok(Some(Progress::Parts(Seen::nothing(alloc, action))))
+        Ok(Some(behind_action(alloc, action)))
     } else if is_archive(word) {
         Ok(Some(Progress::Archive(Text::of(alloc, word)?)))
     } else {
         Ok(None)
+    }
+}
+
+// The path whose text the word is.
+fn path_of(alloc: Global, word: &str) -> Result<Option<Path>, AllocError>
+    ensures { IfOk result (λ found. found ≡ spec.path_read word.now) }
+{
+    match Path::parse(alloc, word) {
+        Ok(path) => Ok(Some(path)),
+        Err(PathError::NotAPath) => Ok(None),
+        Err(PathError::NoMemory) => Err(AllocError),
+    }
+}
+
+fn after_part(seen: Seen, alloc: Global, word: &str) -> Result<Option<Progress>, AllocError>
+    ensures { IfOk result (λ next. next ≡ spec.after_part seen word.now) }
+{
+    match seen.after(alloc, word)? {
+        Some(more) => Ok(Some(Progress::Parts(more))),
+        None => Ok(None),
+    }
+}
+
+fn after_add(alloc: Global, word: &str) -> Result<Option<Progress>, AllocError>
+    ensures { IfOk result (λ next. next ≡ spec.after_add word.now) }
+{
+    match path_of(alloc, word)? {
+        Some(path) => Ok(Some(Progress::Tree(path))),
+        None => after_part(Seen::nothing(alloc, DkmsAction::Add), alloc, word),
     }
 }
 
@@ -80,13 +122,11 @@ impl Progress {
     {
         match self {
             Progress::Start => Ok(after_start(word)),
-            Progress::Help | Progress::Recover => Ok(None),
+            Progress::Help | Progress::Recover | Progress::Tree(_) => Ok(None),
             Progress::Dkms => after_dkms(alloc, word),
             Progress::Archive(action) => Ok(Some(Progress::Archive(action))),
-            Progress::Parts(seen) => match seen.after(alloc, word)? {
-                Some(more) => Ok(Some(Progress::Parts(more))),
-                None => Ok(None),
-            },
+            Progress::Add => after_add(alloc, word),
+            Progress::Parts(seen) => after_part(seen, alloc, word),
         }
     }
 
@@ -95,10 +135,11 @@ impl Progress {
         ensures { IsRead result (spec.read_line place (spec.ended self)) }
     {
         match self {
-            Progress::Start | Progress::Dkms => Err(usage(place)),
+            Progress::Start | Progress::Dkms | Progress::Add => Err(usage(place)),
             Progress::Help => Ok(Command::Help),
             Progress::Recover => Ok(Command::Recover),
             Progress::Archive(word) => Err(Stop::Refused(Refusal::Archive { word })),
+            Progress::Tree(path) => Ok(Command::AddTree { path }),
             Progress::Parts(seen) => seen.end(place),
         }
     }
