@@ -56,8 +56,8 @@ store_shown roots apart tree = ap (read_of roots) (sym (public_whole roots tree)
 same_root : (path : Path) (a b : Tree) → node_at a path ≡ node_at b path → no_root path a ≡ no_root path b
 same_root path a b same = cc
 
-pub dkms_shown : (roots : Roots) → AreApart roots → (tree : Tree) → no_root roots.dkms tree ≡ no_root roots.dkms (public_tree roots tree)
-dkms_shown roots apart tree = same_root roots.dkms tree (public_tree roots tree) (sym (shown roots tree roots.dkms (dkms_public roots apart)))
+pub dkms_shown : (roots : Roots) → AreApart roots → (tree : Tree) → no_root roots.dkms tree ≡ no_root roots.dkms (whole_tree roots tree)
+dkms_shown roots apart tree = same_root roots.dkms tree (whole_tree roots tree) (sym (whole_shown roots tree roots.dkms (dkms_public roots apart)))
 
 -- a root that isn't missing is a directory
 pub root_there : (path : Path) (tree : Tree) → no_root path tree ≡ None → is_dir (node_at tree path) ≡ true
@@ -69,13 +69,20 @@ root_there path tree none = by (is_dir (node_at tree path)) refl
         let found : no_root path tree ≡ Some (refusal.NoRoot path) = ap (λ b. cond b None (Some (refusal.NoRoot path))) e in
         let impossible : Some (refusal.NoRoot path) ≡ None = sym found ∙ none in cc
 
--- where no root of `dkms add` is missing, the dkms root is a directory
+-- where no root of `dkms add` is missing, both are directories
 pub dkms_there : (roots : Roots) (tree : Tree) → no_roots_of_add roots tree ≡ None → is_dir (node_at tree roots.dkms) ≡ true
 dkms_there roots tree none = root_there roots.dkms tree (first_none (no_root roots.dkms tree) (no_root roots.src tree) none)
   where
     first_none : (first second : Option Refusal) → option_or first second ≡ None → first ≡ None
     first_none None second h = refl
     first_none (Some why) second h = cc
+
+pub src_there : (roots : Roots) (tree : Tree) → no_roots_of_add roots tree ≡ None → is_dir (node_at tree roots.src) ≡ true
+src_there roots tree none = root_there roots.src tree (second_none (no_root roots.dkms tree) (no_root roots.src tree) none)
+  where
+    second_none : (first second : Option Refusal) → option_or first second ≡ None → second ≡ None
+    second_none None second h = h
+    second_none (Some why) second h = cc
 
 -- what is known of a machine keeps its rules
 kernel_keeps : (kernel : Option (List ℕ)) → is_kernel_if_any (known_kernel kernel) ≡ true

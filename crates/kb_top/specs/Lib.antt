@@ -1,3 +1,4 @@
+pub mod Adding
 pub mod Machine
 pub mod Run
 pub mod Serve

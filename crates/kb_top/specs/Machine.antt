@@ -10,7 +10,6 @@ use Rattle.kb_world.specs.Outcome.{Outcome, Action, refuse_if, unless, print, wa
 use Rattle.kb_world.specs.declared.child.Request.{Request}
 use Rattle.kb_world.specs.declared.roots.Roots.{Roots}
 use Rattle.kb_world.specs.declared.job.Filter.{Filter}
-use Rattle.kb_world.specs.declared.job.Key.{Key}
 use Rattle.kb_world.specs.declared.job.Host.{Host}
 use Rattle.kb_world.specs.declared.refusal.Refusal.{Refusal}
 use Rattle.kb_world.specs.declared.refusal.Refusal.TheVariants as refusal
@@ -23,6 +22,7 @@ use Rattle.kb_words.specs.Reading.{reading}
 use Rattle.kb_store.specs.Read.{read_of}
 use Rattle.kb_status.specs.Status.{text_of_status}
 use Rattle.kb_dkms.specs.Add.{add}
+use Rattle.kb_dkms.specs.AddTree.{add_tree}
 
 unfoldable pub help_text : List ℕ
 help_text = codes "usage: kmodboot COMMAND\ncommands: dkms, kernel-install, kernel-hook, recover, selftest, help\n"
@@ -60,6 +60,7 @@ abbrev pub asks_recovery : Command → Bool
 asks_recovery command.Help = false
 asks_recovery command.Recover = true
 asks_recovery (command.Add key) = false
+asks_recovery (command.AddTree path) = false
 asks_recovery (command.Status filter) = false
 
 -- words were read as that command
@@ -83,11 +84,12 @@ abbrev pub no_roots_of_add : Roots → Tree → Option Refusal
 no_roots_of_add roots = no_root roots.dkms or no_root roots.src
 
 -- The store is read once: where it is damaged, or too large to be read, the command is refused.
-abbrev pub add_to_store : Host → Script → Key → Action
-add_to_store host script key = reads (read_of host.roots) (λ store. add host script key)
+abbrev pub add_to_store : Roots → Action → Action
+add_to_store roots added = reads (read_of roots) (λ store. added)
 
-abbrev pub perform_add : Host → Script → Key → Action
-perform_add host script key = unless (no_roots_of_add host.roots) then add_to_store host script key
+-- `dkms add`, of a package or of a directory
+abbrev pub perform_add : Roots → Action → Action
+perform_add roots added = unless (no_roots_of_add roots) then add_to_store roots added
 
 -- the status of the store that is read is printed
 abbrev pub print_status : Roots → Filter → Action
@@ -101,7 +103,8 @@ perform_status roots filter = unless (no_root roots.dkms) then print_status root
 abbrev pub perform : Host → Script → Command → Action
 perform host script command.Help = print help_text
 perform host script command.Recover = print []
-perform host script (command.Add key) = perform_add host script key
+perform host script (command.Add key) = perform_add host.roots (add host script key)
+perform host script (command.AddTree path) = perform_add host.roots (add_tree host script path)
 perform host script (command.Status filter) = perform_status host.roots filter
 
 abbrev pub perform_read : Host → Script → Result Command Refusal → Action

@@ -1,6 +1,7 @@
 //! The top call: the words of a command line go in, and its answer comes out.
 #![tactic(auto)]
 
+mod adding;
 mod call;
 mod end;
 mod laws;

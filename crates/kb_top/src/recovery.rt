@@ -74,8 +74,7 @@ pub fn tell_recovery(
 {
     match read {
         Ok(Command::Recover) => push_printed(&mut report.out, found),
-        Ok(Command::Help | Command::Add { .. } | Command::Status { .. }) | Err(_) => {
-            push_warned(&mut report.err, found)
-        }
+        Ok(Command::Help | Command::Add { .. } | Command::AddTree { .. } | Command::Status { .. })
+        | Err(_) => push_warned(&mut report.err, found),
     }
 }

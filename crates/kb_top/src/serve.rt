@@ -3,22 +3,20 @@ ghost use Rattle.std.specs.Prelude.{◌≡◌, IfOk, IsTrue, None, true};
 ghost use Rattle.std.specs.Option.{ForSome};
 ghost use Rattle.kb_world.specs.Public.{intent_path};
 ghost use Rattle.kb_world.specs.Roots.{AreApart};
-ghost use Rattle.kb_world.specs.Store.{is_key};
-ghost use Rattle.kb_world.specs.Tree.{node_at, is_dir};
+ghost use Rattle.kb_world.specs.Tree.{node_at};
 ghost use Rattle.kb_machine.specs.Across.{DoesAcrossCrashes};
 ghost use Rattle.kb_dkms.specs.Host.{host_keeps_rules};
 ghost use Rattle.kb_words.specs.Words as words;
-ghost use Rattle.kb_top.specs.Machine.{help_text, known_kernel, known_arch, known_host, add_to_store, perform_add, perform, machine};
+ghost use Rattle.kb_top.specs.Machine.{help_text, known_kernel, known_arch, known_host, perform, machine};
 ghost use Rattle.kb_top.specs.Serve.{Serves};
 ghost use Rattle.kb_top.specs.Telling.{words_found};
 
+use crate::adding::{Addition, perform_add};
 use crate::recovery::tell_recovery;
-use crate::roots::require_roots_of_add;
 use crate::status::perform_status;
 use kb_intent::{Recovered, recover};
-use kb_store::Store;
 use kb_words::{Command, read_words};
-use kb_world::{Host, Job, Key, Report, Sequence, Stop, Text, World, is_arch, is_kernel};
+use kb_world::{Host, Job, Report, Sequence, Stop, Text, World, is_arch, is_kernel};
 use std::alloc::{AllocError, Global};
 
 #[tactic(auto, unfolding(crate::specs::Machine::help_text))]
@@ -73,60 +71,6 @@ fn job_of(alloc: Global, words: &[Text], host: &Host) -> Result<Job, AllocError>
     })
 }
 
-// `dkms add`, once the roots that it needs are there: the store is read, and then the package is added to it.
-fn add_to_store<W: World>(
-    alloc: Global,
-    world: &mut W,
-    job: &Job,
-    report: &mut Report,
-    key: &Key,
-) -> Result<(), Stop>
-    requires named { IsTrue (is_key key.now) }
-    requires known { IsTrue (host_keeps_rules job.now.host) }
-    requires apart { AreApart job.now.host.roots }
-    requires rooted { ForSome (W.state world.old).tree (λ tree.
-        (W.state world.old).roots ≡ job.now.host.roots) }
-    requires root { ForSome (W.state world.old).tree (λ tree. is_dir
-        (node_at tree job.now.host.roots.dkms) ≡ true) }
-    requires bare { ForSome (W.state world.old).tree (λ tree. node_at tree
-        (intent_path job.now.host.roots) ≡ None) }
-    ensures { DoesAcrossCrashes job.now.host.roots (add_to_store job.now.host
-        (W.state world.old).script key.now) (W.state world.old)
-        (W.state world.new) report.old report.new result }
-{
-    let _store = match Store::read(alloc, world, &job.host.roots) {
-        Ok(store) => store,
-        Err(stop) => return Err(stop),
-    };
-    kb_dkms::add(alloc, world, job, report, key)
-}
-
-// `dkms add` of a package.
-fn perform_add<W: World>(
-    alloc: Global,
-    world: &mut W,
-    job: &Job,
-    report: &mut Report,
-    key: &Key,
-) -> Result<(), Stop>
-    requires named { IsTrue (is_key key.now) }
-    requires known { IsTrue (host_keeps_rules job.now.host) }
-    requires apart { AreApart job.now.host.roots }
-    requires rooted { ForSome (W.state world.old).tree (λ tree.
-        (W.state world.old).roots ≡ job.now.host.roots) }
-    requires bare { ForSome (W.state world.old).tree (λ tree. node_at tree
-        (intent_path job.now.host.roots) ≡ None) }
-    ensures { DoesAcrossCrashes job.now.host.roots (perform_add job.now.host
-        (W.state world.old).script key.now) (W.state world.old)
-        (W.state world.new) report.old report.new result }
-{
-    match require_roots_of_add(alloc, world, &job.host.roots) {
-        Ok(()) => {}
-        Err(stop) => return Err(stop),
-    }
-    add_to_store(alloc, world, job, report, key)
-}
-
 // Does a command whose names keep their rules, where no journal stands.
 fn perform<W: World>(
     alloc: Global,
@@ -153,7 +97,10 @@ fn perform<W: World>(
         },
         // That is done by now, and told.
         Command::Recover => Ok(()),
-        Command::Add { key } => perform_add(alloc, world, job, report, key),
+        Command::Add { key } => perform_add(alloc, world, job, report, Addition::Package(key)),
+        Command::AddTree { path } => {
+            perform_add(alloc, world, job, report, Addition::Directory(path))
+        }
         Command::Status { filter } => {
             perform_status(alloc, world, &job.host.roots, report, filter)
         }

@@ -23,3 +23,6 @@ perform_add-requires-clause-named g c = sym (ap names_keep_rules c.in-Add.is) âˆ
 
 pub returns-in-Add : goal.returns-in-Add
 returns-in-Add g c = rw c.in-Add.is c.perform_add.ensures
+
+pub returns-in-AddTree : goal.returns-in-AddTree
+returns-in-AddTree g c = rw c.in-AddTree.is c.perform_add-in-AddTree.ensures
