@@ -38,7 +38,7 @@ use Rattle.kb_world.specs.Read.{unless_due}
 use Rattle.kb_dkms.specs.declared.places.Places.{Places}
 use Rattle.kb_dkms.specs.Add.{add, add_with, add_and_run, already_added, source_conf, unused_lines, blocked}
 use Rattle.kb_dkms.specs.Host.{is_kernel_if_any, host_keeps_rules}
-use Rattle.kb_dkms.specs.Commit.{IsUnadded, CanAdd}
+use Rattle.kb_dkms.specs.Commit.{IsUnadded}
 use Rattle.kb_dkms.specs.Places.{package_places, standing, blocked_by, place_blocked}
 use Rattle.kb_dkms.specs.Scripts.{host_given, warning_line}
 use Rattle.kb_dkms.proofs.AddLaws.{standing_shown, conf_shown, blocked_shown}
@@ -83,9 +83,6 @@ pub add_unblocked : (roots : Roots) (key : Key) (tree : Tree) → place_blocked 
 add_unblocked roots key tree none =
     ap (λ first. option_or first (blocking (version_path roots key) tree)) (unblocked (module_path roots key) tree (nothing_first _ (blocked_by (version_path roots key) tree) none))
     ∙ unblocked (version_path roots key) tree (nothing_second (blocked_by (module_path roots key) tree) _ none)
-
-pub can_add : (roots : Roots) (key : Key) (tree : Tree) → IsUnadded roots key tree → place_blocked (package_places roots key) tree ≡ None → CanAdd roots key tree
-can_add roots key tree unadded none = record { unadded = unadded; unblocked = add_unblocked roots key tree none }
 
 -- where a conf was loaded its directory stands
 pub loaded_dir : (dir : Path) (key : Option Key) (given : Given) (tree : Tree) (conf : Conf) → loaded_conf dir key given tree ≡ Ok conf → is_dir (node_at tree dir) ≡ true

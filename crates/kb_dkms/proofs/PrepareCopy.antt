@@ -1,5 +1,5 @@
 -- The transaction of an add that copies a directory is put together aside from all that counts.
-use Rattle.std.proofs.Common.{◌≡◌, ℕ, ◌+◌, ◌<◌, ◌^◌, true, false, List, [], ◌∷◌, ◌++◌, Option, Some, None, refl, sym, ap, ◌∙◌, subst, arith}
+use Rattle.std.proofs.Common.{◌≡◌, ℕ, true, false, List, [], ◌∷◌, ◌++◌, Option, Some, None, refl, sym, ap, ◌∙◌, subst}
 use Rattle.std.proofs.lemmas.List.Elements.{All-from_recursion}
 use Rattle.std.specs.Prelude.{Result, Ok, Err, codes}
 use Rattle.std.specs.List.{All, AllByRecursion}
@@ -32,7 +32,6 @@ use Rattle.kb_walk.specs.declared.walking.Met.{Met}
 use Rattle.kb_walk.specs.declared.walking.Walk.{Walk}
 use Rattle.kb_walk.proofs.WholeLaws.{walked_whole}
 use Rattle.kb_changes.specs.Changes.{Staged, nodes_of, HasStaged}
-use Rattle.kb_changes.specs.declared.counts.Counts.{Counts}
 use Rattle.kb_changes.specs.PatchPaths.{ArePathsOf}
 use Rattle.kb_changes.specs.Valid.{new_intent_path}
 use Rattle.kb_changes.specs.declared.change.RootName.TheVariants as root_name
@@ -263,17 +262,11 @@ module _ (job : Job) (apart : AreApart job.host.roots) (key : Key) (from : Path)
   first : IsUnderWay roots (λ tree. none_staged) old mid begun
   first = begun_under_way job old mid begun b
 
-  pub begun_apart : AreApart begun.roots
-  begun_apart = subst AreApart (sym b.begun.roots) apart
-
   pub begun_src : ForSome old.tree (λ tree. is_dir (node_at tree roots.src) ≡ true) → ForSome mid.tree (λ tree. is_dir (node_at tree begun.roots.src) ≡ true)
   begun_src = still_dir roots (λ tree. none_staged) old mid begun first (λ (r : Roots). r.src) (src_kept roots apart)
 
   pub begun_held : ForSome mid.tree (IsStagedFor begun)
   begun_held = still_held roots (λ tree. none_staged) old mid begun first
-
-  pub begun_none : begun.staged.src ≡ 0
-  begun_none = ap (λ (c : Counts). c.src) b.begun.counts
 
   pub begun_met : ForSome mid.tree (λ tree. All (StandsAsMet begun.roots tree) met)
   begun_met now told =
@@ -291,17 +284,11 @@ module _ (job : Job) (apart : AreApart job.host.roots) (key : Key) (from : Path)
     second : IsUnderWay roots copies old next copied
     second = sources_under_way roots (λ tree. none_staged) old mid begun first apart copied next (nodes_met met) _ u s (λ tree now told same. nodes_kept roots from tree met (all tree told) now same)
 
-    pub copied_apart : AreApart copied.roots
-    copied_apart = subst AreApart (sym second.roots_are) apart
-
     pub copied_dkms : ForSome old.tree (λ tree. is_dir (node_at tree roots.dkms) ≡ true) → ForSome next.tree (λ tree. is_dir (node_at tree copied.roots.dkms) ≡ true)
     copied_dkms = still_dir roots copies old next copied second (λ (r : Roots). r.dkms) (root_aside roots apart roots.dkms (at_0 roots.dkms (roots.src ∷ roots.modules ∷ roots.boot ∷ [])))
 
     pub copied_held : ForSome next.tree (IsStagedFor copied)
     copied_held = still_held roots copies old next copied second
-
-    pub copied_room : copied.staged.dkms + 1 < 2 ^ 64
-    copied_room = omega (arith, ap (λ (t : Txn). t.staged.dkms) s.counted, ap (λ (c : Counts). c.dkms) b.begun.counts)
 
     module _ (request : Option Request) where
       pub link_unstaged : (after : Txn) (new : State) (stop : Stop) (at : Node) → Stages root_name.Dkms at copied after next new (Err stop) → Prepares roots patch request old new (Err stop)

@@ -1,14 +1,13 @@
 -- What `dkms add` of a directory names and stages, by what a walk met below it.
-use Rattle.std.proofs.Common.{◌≡◌, suc, ◌<◌, ◌^◌, Bool, true, false, List, [], ◌∷◌, ◌++◌, length, map, Option, None, sym, ap, ◌∙◌, subst, arith}
+use Rattle.std.proofs.Common.{◌≡◌, suc, ◌<◌, ◌^◌, Bool, true, false, List, [], ◌∷◌, ◌++◌, length, map, Option, None, sym, ap, ◌∙◌, arith}
 use Rattle.std.proofs.lemmas.List.{map-id}
 use Rattle.std.proofs.lemmas.Simd.{map-map}
 use Rattle.std.specs.Prelude.{filter, unwrap_or}
 use Rattle.std.specs.List.{AllByRecursion}
-use Rattle.std.specs.FinMap.{keys}
 use Rattle.kb_world.specs.Layout.{whole_tree}
 use Rattle.kb_world.specs.Path.{Path}
 use Rattle.kb_world.specs.Public.{is_private}
-use Rattle.kb_world.specs.Roots.{AreApart, is_below}
+use Rattle.kb_world.specs.Roots.{AreApart}
 use Rattle.kb_world.specs.Steps.{add_tree_patch}
 use Rattle.kb_world.specs.Store.{is_key, link_path, source_path, source_text}
 use Rattle.kb_world.specs.Tree.{Tree, node_at, kind_of, is_dir, is_leaf, IsFormed}
@@ -17,7 +16,7 @@ use Rattle.kb_world.specs.declared.roots.Roots.{Roots}
 use Rattle.kb_world.specs.declared.tree.Kind.{Kind}
 use Rattle.kb_world.specs.declared.tree.Node.{Node}
 use Rattle.kb_world.specs.declared.tree.Node.TheVariants as node
-use Rattle.kb_world.proofs.AboveLaws.{all-all, all-map, all-passing}
+use Rattle.kb_world.proofs.AboveLaws.{all-all}
 use Rattle.kb_walk.specs.Walking.{LIMITS, met_at, walked, is_dir_kind, is_leaf_kind}
 use Rattle.kb_walk.specs.declared.walking.Met.{Met}
 use Rattle.kb_walk.specs.declared.walking.Walk.{Walk}
@@ -28,7 +27,7 @@ use Rattle.kb_walk.proofs.WholeLaws.{whole_formed, entries_whole, walked_whole}
 use Rattle.kb_changes.specs.Changes.{nodes_of}
 use Rattle.kb_changes.specs.Fit.{IsFit, MayStand}
 use Rattle.kb_changes.proofs.TreeFits.{HasRoomForCopy, add_tree_fits, add_tree_stands}
-use Rattle.kb_changes.proofs.TreePatch.{filter-map, filter-same, copied_paths, copied_dirs, copied_leaves, copy_path, copy_at, link_put, dirs_are, puts_are, targets_are, nodes_are}
+use Rattle.kb_changes.proofs.TreePatch.{filter-map, filter-same, copied_paths, copied_dirs, copied_leaves, copy_path, dirs_are, targets_are, nodes_are}
 
 abbrev path_met : Met → Path
 path_met met = met.path
@@ -54,14 +53,9 @@ module _ (roots : Roots) (tree : Tree) (from : Path) (ended : (walked LIMITS tre
   pub few_copied : suc (length (copied_paths from (whole_tree roots tree))) < 2 ^ 64
   few_copied = omega (arith, few_entries LIMITS tree (is_private roots) from ended, ap length (entries_whole roots tree from ∙ skips_none whole from))
 
-  -- nothing private, and nothing beside the directory
+  -- nothing private
   pub met_open : AllByRecursion (λ (m : Met). is_private roots m.path ≡ false) (walked LIMITS tree (is_private roots) from).met
   met_open = met_unskipped LIMITS tree (is_private roots) from ended
-
-  pub met_below : AllByRecursion (λ (m : Met). is_below m.path from ≡ true) (walked LIMITS tree (is_private roots) from).met
-  met_below =
-      subst (AllByRecursion (λ (m : Met). is_below m.path from ≡ true)) (sym met_is)
-      (all-map (λ (m : Met). is_below m.path from ≡ true) (met_at whole) (copied_paths from whole) (all-passing (λ path. is_below path from ≡ true) (λ path. is_below path from) (λ path below. below) (keys whole)))
 
   -- where a test of kinds is one of nodes, what passes it was met in this order
   passing : (kinds : Kind → Bool) (nodes : Option Node → Bool) → ((at : Option Node) → kinds (kind_of at) ≡ nodes at) → map path_met (filter (λ (m : Met). kinds m.kind) met) ≡ filter (λ path. nodes (node_at whole path)) (copied_paths from whole)
@@ -91,13 +85,7 @@ module _ (roots : Roots) (tree : Tree) (from : Path) (ended : (walked LIMITS tre
     tree_dirs =
         dirs_are roots key from whole ∙ ap (λ paths. source_path roots key ∷ map (copy_path roots key from) paths) dirs_are_met ∙ ap (λ paths. source_path roots key ∷ paths) (map-map (copy_path roots key from) path_met dirs_met)
 
-    -- a copy of each file and link that was met, in this order, and the link of the version behind them
-    pub tree_puts : (add_tree_patch roots key from (whole_tree roots tree)).puts
-        ≡ map (λ (m : Met). copy_at roots key from (whole_tree roots tree) m.path) (filter (λ (m : Met). is_leaf_kind m.kind) (walked LIMITS tree (is_private roots) from).met) ++ link_put roots key ∷ []
-    tree_puts =
-        puts_are roots key from whole ∙ ap (λ paths. map (copy_at roots key from whole) paths ++ link_put roots key ∷ []) leaves_are_met
-        ∙ ap (λ puts. puts ++ link_put roots key ∷ []) (map-map (copy_at roots key from whole) path_met leaves_met)
-
+    -- and the place of each file and link that was met, in this order, and the link of the version behind them
     pub tree_targets : map (λ (put : Path × Node). put.0) (add_tree_patch roots key from (whole_tree roots tree)).puts
         ≡ map (λ (m : Met). copy_path roots key from m.path) (filter (λ (m : Met). is_leaf_kind m.kind) (walked LIMITS tree (is_private roots) from).met) ++ link_path roots key ∷ []
     tree_targets =
