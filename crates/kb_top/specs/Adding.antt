@@ -10,9 +10,9 @@ use Rattle.kb_top.specs.declared.adding.Addition.{Addition}
 use Rattle.kb_top.specs.declared.adding.Addition.TheVariants.{Package, Directory}
 
 -- the names of a package keep their rules
-abbrev pub is_named : Addition → Bool
-is_named (Package key) = is_key key.now
-is_named (Directory path) = true
+abbrev pub is_addition_named : Addition → Bool
+is_addition_named (Package key) = is_key key.now
+is_addition_named (Directory path) = true
 
 abbrev pub adding : Host → Script → Addition → Action
 adding host script (Package key) = add host script key.now

@@ -7,7 +7,7 @@ ghost use Rattle.kb_world.specs.Roots.{AreApart};
 ghost use Rattle.kb_world.specs.Tree.{node_at, is_dir};
 ghost use Rattle.kb_machine.specs.Across.{DoesAcrossCrashes};
 ghost use Rattle.kb_dkms.specs.Host.{host_keeps_rules};
-ghost use Rattle.kb_top.specs.Adding.{is_named, adding};
+ghost use Rattle.kb_top.specs.Adding.{is_addition_named, adding};
 ghost use Rattle.kb_top.specs.Machine as machine;
 
 use crate::roots::require_roots_of_add;
@@ -30,7 +30,7 @@ fn add<W: World>(
     report: &mut Report,
     addition: Addition<'_>,
 ) -> Result<(), Stop>
-    requires named { is_named addition ≡ true }
+    requires named { is_addition_named addition ≡ true }
     requires known { IsTrue (host_keeps_rules job.now.host) }
     requires apart { AreApart job.now.host.roots }
     requires rooted { ForSome (W.state world.old).tree (λ tree.
@@ -61,7 +61,7 @@ fn add_to_store<W: World>(
     report: &mut Report,
     addition: Addition<'_>,
 ) -> Result<(), Stop>
-    requires named { is_named addition ≡ true }
+    requires named { is_addition_named addition ≡ true }
     requires known { IsTrue (host_keeps_rules job.now.host) }
     requires apart { AreApart job.now.host.roots }
     requires rooted { ForSome (W.state world.old).tree (λ tree.
@@ -91,7 +91,7 @@ pub fn perform_add<W: World>(
     report: &mut Report,
     addition: Addition<'_>,
 ) -> Result<(), Stop>
-    requires named { is_named addition ≡ true }
+    requires named { is_addition_named addition ≡ true }
     requires known { IsTrue (host_keeps_rules job.now.host) }
     requires apart { AreApart job.now.host.roots }
     requires rooted { ForSome (W.state world.old).tree (λ tree.
