@@ -11,7 +11,7 @@ use Rattle.std.specs.Cmp.Derive.{both_true}
 use Rattle.kb_world.specs.Path.{Path, parent, is_under}
 use Rattle.kb_world.specs.Tree.{Tree, node_at, is_dir, is_leaf}
 use Rattle.kb_world.specs.TreeLaws.{same_path, same_path-true, same_path-refl, same_tree}
-use Rattle.kb_world.specs.Public.{IsAlwaysPublic, is_private, public_tree, foreign_tree}
+use Rattle.kb_world.specs.Public.{IsNeverForeign, IsAlwaysPublic, is_private, public_tree, foreign_tree}
 use Rattle.kb_world.specs.Roots.{AreApart, is_below}
 use Rattle.kb_world.specs.Script.{Script}
 use Rattle.kb_world.specs.Patch.{Patch, above, dirs_of, emptied_of, patched, with_directories, with_nodes, dropped, all_dropped, wiped, all_wiped, tidied, all_tidied, is_listed, put_at}
@@ -34,7 +34,7 @@ use Rattle.kb_changes.specs.declared.change.RootName.{RootName}
 use Rattle.kb_changes.specs.declared.change.RootName.TheVariants as root_name
 use Rattle.kb_changes.proofs.PatchParents.{or_right, source_place, dir_place, HasPlace, dirs_done, stands_after, stays_after}
 use Rattle.kb_changes.proofs.PatchPublic.{all_dropped-public, all_wiped-public, with_directories-public, all_tidied-public}
-use Rattle.kb_changes.proofs.PatchForeign.{IsNeverForeign, private-own, all_dropped-foreign, all_wiped-foreign, with_directories-foreign, all_tidied-foreign}
+use Rattle.kb_changes.proofs.PatchForeign.{private-own, all_dropped-foreign, all_wiped-foreign, with_directories-foreign, all_tidied-foreign}
 use Rattle.kb_changes.proofs.PatchPuts.{IsReadyPut, IsPutOver, staged_for, staged_private, private_hidden, open_no_private, puts_done}
 use Rattle.kb_changes.proofs.PatchPlaces.{scratch_of, scratch_private, listed_root, root-over, staged-over, wipe_place, wiped_own, EmptiedPlace, emptied_place}
 use Rattle.kb_changes.proofs.PatchPlain.{IsLeft, all_plain}

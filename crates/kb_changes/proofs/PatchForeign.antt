@@ -6,16 +6,12 @@ use Rattle.kb_world.specs.Path.{Path, is_under}
 use Rattle.kb_world.specs.Tree.{Tree, node_at, with_node, without, edited, moved, is_leaf, is_dir}
 use Rattle.kb_world.specs.TreeLaws.{same_path, same_path-true, same_tree, node_at-remove, node_at-retain}
 use Rattle.kb_world.specs.Roots.{is_below}
-use Rattle.kb_world.specs.Public.{IsAlwaysPublic, is_public, is_private, foreign_tree}
+use Rattle.kb_world.specs.Public.{IsAlwaysPublic, IsNeverForeign, is_public, is_private, foreign_tree}
 use Rattle.kb_world.specs.Patch.{with_directory, dropped, wiped, tidied, all_dropped, all_wiped, with_directories, all_tidied}
 use Rattle.kb_world.specs.declared.roots.Roots.{Roots}
 use Rattle.kb_world.specs.declared.tree.Node.{Node}
 use Rattle.kb_world.specs.declared.tree.Node.TheVariants as node
 use Rattle.kb_world.proofs.PublicLaws.{node_at-foreign_tree, foreign_tree-with_node}
-
--- whatever stands at the path, it isn't foreign
-abbrev pub IsNeverForeign : Roots → Path → Type 0
-IsNeverForeign roots path = (at : Option Node) → (not (is_public roots path at) && not (is_private roots path)) ≡ false
 
 pub public-own : (roots : Roots) (path : Path) → IsAlwaysPublic roots path → IsNeverForeign roots path
 public-own roots path opens at = ap (λ b. not b && not (is_private roots path)) (opens at)

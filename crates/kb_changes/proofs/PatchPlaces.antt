@@ -9,7 +9,7 @@ use Rattle.std.specs.Cmp.Lexicographic.{bytes_decides}
 use Rattle.kb_world.specs.Path.{Path, child, is_under, are_apart}
 use Rattle.kb_world.specs.Tree.{is_dir}
 use Rattle.kb_world.specs.TreeLaws.{same_path, same_path-true, same_path-refl}
-use Rattle.kb_world.specs.Public.{IsAlwaysPublic, is_public, is_private, is_loose, staging_path, private_places}
+use Rattle.kb_world.specs.Public.{IsAlwaysPublic, IsNeverForeign, is_public, is_private, is_loose, staging_path, private_places}
 use Rattle.kb_world.specs.Roots.{AreApart, is_below}
 use Rattle.kb_world.specs.StorePath.{key_of, store_path, path_of, is_in_scratch}
 use Rattle.kb_world.specs.Patch.{Patch, above, emptied_of, in_order, is_listed}
@@ -30,7 +30,7 @@ use Rattle.kb_changes.specs.Fit.{IsInOwnRoot}
 use Rattle.kb_changes.specs.declared.change.RootName.{RootName}
 use Rattle.kb_changes.specs.declared.change.RootName.TheVariants as root_name
 use Rattle.kb_changes.proofs.PatchParents.{not_true, or_right, nth_listed, either, found-flat_map, directories-over, modules_boot}
-use Rattle.kb_changes.proofs.PatchForeign.{IsNeverForeign, public-own, private-own}
+use Rattle.kb_changes.proofs.PatchForeign.{public-own, private-own}
 use Rattle.kb_changes.proofs.PatchPuts.{root-under, staged_private, open_no_private}
 
 untrue : false ≡ true → ⊥

@@ -5,8 +5,8 @@ use Rattle.std.specs.Option.{option_or}
 use Rattle.kb_world.specs.Path.{Path}
 use Rattle.kb_world.specs.Tree.{Tree, node_at, is_file, file_bytes}
 use Rattle.kb_world.specs.State.{State, HasCause}
-use Rattle.kb_world.specs.Does.{Decides, Agrees, IsAnswer, Gives}
-use Rattle.kb_world.proofs.DoesLaws.{unchanged_then}
+use Rattle.kb_world.specs.Read.{Decides, Agrees, IsAnswer, Gives, IsRead, unless_due}
+use Rattle.kb_world.proofs.CallLaws.{unchanged_then}
 use Rattle.kb_world.specs.declared.job.Key.{Key}
 use Rattle.kb_world.specs.declared.refusal.Refusal.{Refusal}
 use Rattle.kb_world.specs.declared.stop.Stop.{Stop}
@@ -14,7 +14,6 @@ use Rattle.kb_world.specs.declared.stop.Stop.TheVariants.{Refused, Fault, NoMemo
 use Rattle.kb_conf.specs.declared.conf.Conf.{Conf}
 use Rattle.kb_conf.specs.Assignment.{Given}
 use Rattle.kb_conf.specs.Conf.{conf_of}
-use Rattle.kb_world.specs.Read.{IsRead, unless_due}
 use Rattle.kb_conf.specs.Load.{conf_below, bytes_at, no_conf, no_source, matched, loaded_conf, GivesFile}
 
 -- where no refusal of the source is due, its conf is a file

@@ -4,8 +4,7 @@ ghost use Rattle.std.specs.Option.{ForSome, option_copied};
 ghost use Rattle.kb_conf.specs.Conf.{conf_of};
 ghost use Rattle.kb_conf.specs.Load as rule;
 ghost use Rattle.kb_conf.specs.Load.{GivesFile};
-ghost use Rattle.kb_world.specs.Read.{IsRead};
-ghost use Rattle.kb_world.specs.Does.{Decides, Gives};
+ghost use Rattle.kb_world.specs.Read.{IsRead, Decides, Gives};
 ghost use Rattle.kb_world.specs.Store.{is_key};
 ghost use Rattle.kb_world.specs.Tree.{node_at, is_file};
 

@@ -2,7 +2,7 @@
 use Rattle.std.proofs.Common.{◌≡◌, ℕ, true, List, Option, Some, None, refl, sym, ap, ◌∙◌, subst}
 use Rattle.std.specs.Prelude.{codes}
 use Rattle.std.specs.Option.{ForSome, IfSome}
-use Rattle.kb_world.specs.Outcome.{Action, transaction, ◌then◌}
+use Rattle.kb_machine.specs.Outcome.{Action, transaction, ◌then◌}
 use Rattle.kb_world.specs.Patch.{patched}
 use Rattle.kb_world.specs.Public.{public_tree, foreign_tree}
 use Rattle.kb_world.specs.Roots.{AreApart}

@@ -3,7 +3,7 @@ use Rattle.std.proofs.Common.{◌≡◌, ℕ, true, List, Option, Some, None, re
 use Rattle.std.specs.Prelude.{codes}
 use Rattle.std.specs.Option.{ForSome, IfSome}
 use Rattle.kb_world.specs.Layout.{whole_tree}
-use Rattle.kb_world.specs.Outcome.{Action, transaction, ◌then◌}
+use Rattle.kb_machine.specs.Outcome.{Action, transaction, ◌then◌}
 use Rattle.kb_world.specs.Patch.{Patch, patched}
 use Rattle.kb_world.specs.Path.{Path}
 use Rattle.kb_world.specs.Public.{public_tree, foreign_tree}

@@ -3,7 +3,7 @@ use Rattle.std.proofs.Common.{◌≡◌, ℕ, Bool, true, false, cond, List, [],
 use Rattle.std.proofs.lemmas.List.{append-nil}
 use Rattle.std.specs.Prelude.{Result, Ok, Err}
 use Rattle.std.specs.Option.{ForSome, IfSome}
-use Rattle.kb_world.specs.Outcome.{Action, transaction, warn, ◌then◌}
+use Rattle.kb_machine.specs.Outcome.{Action, transaction, warn, ◌then◌}
 use Rattle.kb_world.specs.Patch.{Patch, patched}
 use Rattle.kb_world.specs.Path.{Path}
 use Rattle.kb_world.specs.Public.{intent_path, is_public, public_tree, foreign_tree}

@@ -3,9 +3,9 @@ use Rattle.std.proofs.Common.{◌≡◌, true, false, cond, Option, Some, None, 
 use Rattle.std.specs.Prelude.{Result, Ok, Err}
 use Rattle.std.specs.Option.{ForSome, option_map}
 use Rattle.kb_world.specs.Damage.{hurt}
-use Rattle.kb_world.specs.Does.{Decides}
+use Rattle.kb_world.specs.Read.{Decides}
 use Rattle.kb_world.specs.Layout.{whole_tree}
-use Rattle.kb_world.specs.Outcome.{◌or◌}
+use Rattle.kb_machine.specs.Outcome.{◌or◌}
 use Rattle.kb_world.specs.Path.{Path}
 use Rattle.kb_world.specs.Public.{is_private, public_tree}
 use Rattle.kb_world.specs.Roots.{AreApart}
@@ -21,7 +21,7 @@ use Rattle.kb_world.specs.declared.stop.Stop.{Stop}
 use Rattle.kb_world.specs.declared.stop.Stop.TheVariants.{Refused, Fault}
 use Rattle.kb_world.specs.declared.tree.Node.{Node}
 use Rattle.kb_world.specs.declared.world.WorldError.{WorldError}
-use Rattle.kb_world.proofs.DoesLaws.{cause_other}
+use Rattle.kb_world.proofs.CallLaws.{cause_other}
 use Rattle.kb_world.proofs.LayoutLaws.{whole_shown}
 use Rattle.kb_walk.specs.Walking.{LIMITS, walked}
 use Rattle.kb_walk.specs.declared.walking.Met.{Met}

@@ -2,14 +2,14 @@
 use Rattle.std.proofs.Common.{◌≡◌, Option, sym, ap, ◌∙◌, subst}
 use Rattle.std.specs.Prelude.{Result, Ok, Err, IsErrOf}
 use Rattle.std.specs.Option.{ForSome, option_or}
-use Rattle.kb_world.specs.Does.{Agrees, Decides}
-use Rattle.kb_world.specs.Outcome.{◌or◌}
+use Rattle.kb_world.specs.Read.{Agrees, Decides}
+use Rattle.kb_machine.specs.Outcome.{◌or◌}
 use Rattle.kb_world.specs.State.{State, HasCause}
 use Rattle.kb_world.specs.Tree.{Tree}
 use Rattle.kb_world.specs.declared.refusal.Refusal.{Refusal}
 use Rattle.kb_world.specs.declared.stop.Stop.{Stop}
 use Rattle.kb_world.specs.declared.stop.Stop.TheVariants.{Refused, Fault, NoMemory}
-use Rattle.kb_world.proofs.DoesLaws.{cause_then, unchanged_then}
+use Rattle.kb_world.proofs.CallLaws.{cause_then, unchanged_then}
 
 abbrev pub stops : {T : Type 0} → Stop → Result T Stop
 stops stop = Err stop

@@ -16,8 +16,8 @@ use Rattle.kb_world.specs.Store.{is_key, module_path, version_path, link_path, s
 use Rattle.kb_world.specs.Steps.{blocking, add_blocked}
 use Rattle.kb_world.specs.Public.{intent_path, public_tree}
 use Rattle.kb_world.specs.Layout.{whole_tree}
-use Rattle.kb_world.specs.Outcome.{unless, warn, reads, ◌then◌}
-use Rattle.kb_world.specs.Does.{Decides, Agrees, Gives}
+use Rattle.kb_machine.specs.Outcome.{unless, warn, reads, ◌then◌}
+use Rattle.kb_world.specs.Read.{Decides, Agrees, Gives, unless_due}
 use Rattle.kb_world.specs.declared.roots.Roots.{Roots}
 use Rattle.kb_world.specs.declared.job.Key.{Key}
 use Rattle.kb_world.specs.declared.job.Host.{Host}
@@ -34,7 +34,6 @@ use Rattle.kb_conf.specs.declared.conf.Conf.{Conf}
 use Rattle.kb_conf.specs.declared.given.Given.{Given}
 use Rattle.kb_conf.specs.Given.{given_for}
 use Rattle.kb_conf.specs.Load.{loaded_conf}
-use Rattle.kb_world.specs.Read.{unless_due}
 use Rattle.kb_dkms.specs.declared.places.Places.{Places}
 use Rattle.kb_dkms.specs.Add.{add, add_with, add_and_run, already_added, source_conf, unused_lines, blocked}
 use Rattle.kb_dkms.specs.Host.{is_kernel_if_any, host_keeps_rules}

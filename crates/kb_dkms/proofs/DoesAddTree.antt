@@ -3,9 +3,9 @@ use Rattle.std.proofs.Common.{◌≡◌, ℕ, Bool, true, false, cond, List, ◌
 use Rattle.std.specs.Prelude.{Result, Ok, Err}
 use Rattle.std.specs.Option.{ForSome}
 use Rattle.kb_world.specs.Damage.{hurt}
-use Rattle.kb_world.specs.Does.{Decides, Gives}
+use Rattle.kb_world.specs.Read.{Decides, Gives}
 use Rattle.kb_world.specs.Layout.{whole_tree}
-use Rattle.kb_world.specs.Outcome.{unless, warn, ◌then◌}
+use Rattle.kb_machine.specs.Outcome.{unless, warn, ◌then◌}
 use Rattle.kb_world.specs.Path.{Path}
 use Rattle.kb_world.specs.Public.{intent_path, is_private, public_tree}
 use Rattle.kb_world.specs.Roots.{AreApart}

@@ -17,7 +17,7 @@ use Rattle.kb_world.specs.declared.stop.Stop.{Stop}
 use Rattle.kb_world.specs.declared.stop.Stop.TheVariants.{Refused, Fault, NoMemory}
 use Rattle.kb_world.specs.declared.tree.Node.{Node}
 use Rattle.kb_world.specs.declared.tree.Node.TheVariants as node
-use Rattle.kb_world.proofs.DoesLaws.{cause_then, cause_other, ran_none_then}
+use Rattle.kb_world.proofs.CallLaws.{cause_then, cause_other, ran_none_then}
 use Rattle.kb_world.proofs.PathLaws.{under-append, under-self, under-beside}
 use Rattle.kb_changes.specs.Changes.{Staged, nodes_of, root_of, same_root, HasStaged}
 use Rattle.kb_changes.specs.PatchPaths.{ArePathsOf}

@@ -20,7 +20,7 @@ use Rattle.kb_world.specs.declared.tree.Node.{Node}
 use Rattle.kb_world.specs.declared.tree.Node.TheVariants as node
 use Rattle.kb_world.specs.declared.world.WorldError.{WorldError}
 use Rattle.kb_world.proofs.CrashLaws.{adds_none}
-use Rattle.kb_world.proofs.DoesLaws.{unchanged_none, no_cause}
+use Rattle.kb_world.proofs.CallLaws.{unchanged_none, no_cause}
 use Rattle.kb_walk.specs.Walking.{is_leaf_kind}
 use Rattle.kb_walk.specs.declared.walking.Met.{Met}
 use Rattle.kb_changes.specs.declared.change.RootName.TheVariants as root_name

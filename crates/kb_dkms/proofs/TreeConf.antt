@@ -6,7 +6,7 @@ use Rattle.std.specs.Prelude.{Result, Ok, Err, IfOk, codes, bytes_eq}
 use Rattle.std.specs.Cmp.{first_so, second_so}
 use Rattle.std.specs.Cmp.Lexicographic.{bytes_decides}
 use Rattle.std.specs.List.{list_any, AllByRecursion}
-use Rattle.kb_world.specs.Does.{Gives, IsAnswer}
+use Rattle.kb_world.specs.Read.{Gives, IsAnswer}
 use Rattle.kb_world.specs.Layout.{whole_tree}
 use Rattle.kb_world.specs.Path.{Path, child, is_under}
 use Rattle.kb_world.specs.Public.{is_private, private_places}
@@ -21,7 +21,7 @@ use Rattle.kb_world.specs.declared.stop.Stop.{Stop}
 use Rattle.kb_world.specs.declared.stop.Stop.TheVariants.{Refused, Fault}
 use Rattle.kb_world.specs.declared.store_path.StorePath.{StorePath}
 use Rattle.kb_world.specs.declared.store_path.StorePath.TheVariants.{InScratch}
-use Rattle.kb_world.proofs.DoesLaws.{unchanged_none, cause_other, no_cause}
+use Rattle.kb_world.proofs.CallLaws.{unchanged_none, cause_other, no_cause}
 use Rattle.kb_world.proofs.LayoutLaws.{node_at-whole, whole_at}
 use Rattle.kb_world.proofs.PathLaws.{under-root, under-append, under-split, by_test}
 use Rattle.kb_world.proofs.StorePathLaws.{place_back, place_there}

@@ -2,7 +2,7 @@
 use Rattle.std.proofs.Common.{◌≡◌, ap, sym, subst}
 use Rattle.std.specs.Prelude.{Result, Ok, Err}
 use Rattle.std.specs.Result.{IsErrAnd}
-use Rattle.kb_world.specs.Outcome.{Action}
+use Rattle.kb_machine.specs.Outcome.{Action}
 use Rattle.kb_world.specs.State.{State}
 use Rattle.kb_world.specs.declared.job.Report.{Report}
 use Rattle.kb_world.specs.declared.roots.Roots.{Roots}

@@ -7,7 +7,7 @@ use Rattle.kb_world.specs.Tree.{Tree}
 use Rattle.kb_world.specs.Script.{Script}
 use Rattle.kb_world.specs.Store.{source_path, is_added}
 use Rattle.kb_world.specs.Steps.{add_blocked, add_step}
-use Rattle.kb_world.specs.Outcome.{Action, unless, warn, reads, transaction, ◌then◌}
+use Rattle.kb_machine.specs.Outcome.{Action, unless, warn, reads, transaction, ◌then◌}
 use Rattle.kb_world.specs.declared.roots.Roots.{Roots}
 use Rattle.kb_world.specs.declared.job.Key.{Key}
 use Rattle.kb_world.specs.declared.job.Host.{Host}

@@ -9,7 +9,7 @@ use Rattle.kb_world.specs.Roots.{based_roots}
 use Rattle.kb_world.specs.Script.{Script}
 use Rattle.kb_world.specs.Store.{source_path}
 use Rattle.kb_world.specs.Steps.{add_tree_step}
-use Rattle.kb_world.specs.Outcome.{Action, unless, warn, reads, transaction, ◌or◌, ◌then◌}
+use Rattle.kb_machine.specs.Outcome.{Action, unless, warn, reads, transaction, ◌or◌, ◌then◌}
 use Rattle.kb_world.specs.declared.roots.Roots.{Roots}
 use Rattle.kb_world.specs.declared.job.Key.{Key}
 use Rattle.kb_world.specs.declared.job.Host.{Host}

@@ -3,7 +3,7 @@ use Rattle.std.specs.Prelude.{cond, Option, Some, None, is_some}
 use Rattle.std.specs.Option.{option_map}
 use Rattle.kb_world.specs.Path.{Path}
 use Rattle.kb_world.specs.Tree.{Tree, node_at}
-use Rattle.kb_world.specs.Outcome.{◌or◌}
+use Rattle.kb_machine.specs.Outcome.{◌or◌}
 use Rattle.kb_world.specs.Steps.{blocking}
 use Rattle.kb_world.specs.Store.{module_path, version_path, link_path, source_path, source_text}
 use Rattle.kb_world.specs.declared.roots.Roots.{Roots}

@@ -4,7 +4,7 @@ use Rattle.std.specs.Prelude.{ℕ, cond, List, [], ◌∷◌, ◌++◌, Option, 
 use Rattle.kb_world.specs.Refusal.{LINE_FEED}
 use Rattle.kb_world.specs.Script.{Script}
 use Rattle.kb_world.specs.Store.{source_path}
-use Rattle.kb_world.specs.Outcome.{Action, warn, asks}
+use Rattle.kb_machine.specs.Outcome.{Action, warn, asks}
 use Rattle.kb_world.specs.declared.roots.Roots.{Roots}
 use Rattle.kb_world.specs.declared.job.Key.{Key}
 use Rattle.kb_world.specs.declared.job.Host.{Host}

@@ -1,7 +1,7 @@
 // What is read before a directory is copied to a package's source.
 ghost use Rattle.std.specs.Prelude.{◌≡◌, ◌||◌, IfOk, IsTrue, IsErrOf, None, true, false};
 ghost use Rattle.std.specs.Option.{ForSome, option_map};
-ghost use Rattle.kb_world.specs.Does.{Agrees, Decides, Gives};
+ghost use Rattle.kb_world.specs.Read.{Agrees, Decides, Gives};
 ghost use Rattle.kb_world.specs.Damage.{hurt};
 ghost use Rattle.kb_world.specs.Layout.{whole_tree};
 ghost use Rattle.kb_world.specs.Public as public;

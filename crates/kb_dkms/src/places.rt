@@ -1,6 +1,6 @@
 // Where the parts of a package stand, and what is in the way of its link.
 ghost use Rattle.std.specs.Prelude.{◌≡◌, IfOk, IsTrue};
-ghost use Rattle.kb_world.specs.Does.{Decides};
+ghost use Rattle.kb_world.specs.Read.{Decides};
 ghost use Rattle.kb_world.specs.Store.{is_key};
 ghost use Rattle.kb_dkms.specs.Places.{package_places, standing, blocked_by, place_blocked};
 

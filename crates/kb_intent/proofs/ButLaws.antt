@@ -21,7 +21,7 @@ use Rattle.kb_world.specs.declared.tree.Node.TheVariants as nodes
 use Rattle.kb_world.specs.declared.world.WorldError.{WorldError}
 use Rattle.kb_world.specs.declared.world.WorldError.TheVariants.{Failed, NoMemory}
 use Rattle.kb_world.proofs.CrashLaws.{adds_then, adds_wider, adds_none}
-use Rattle.kb_world.proofs.DoesLaws.{cause_then, ran_none_then, unchanged_none}
+use Rattle.kb_world.proofs.CallLaws.{cause_then, ran_none_then, unchanged_none}
 use Rattle.kb_world.proofs.PathLaws.{by_test, under-self}
 use Rattle.kb_again.proofs.KeptLaws.{parent_under}
 use Rattle.kb_again.proofs.PathLaws.{over_over}

@@ -18,7 +18,7 @@ use Rattle.kb_world.specs.declared.roots.Roots.{Roots}
 use Rattle.kb_world.specs.declared.world.WorldError.{WorldError}
 use Rattle.kb_world.specs.declared.world.WorldError.TheVariants.{Failed, NoMemory}
 use Rattle.kb_world.proofs.CrashLaws.{adds_then, adds_none, adds_wider}
-use Rattle.kb_world.proofs.DoesLaws.{lasts_then, rose_since}
+use Rattle.kb_world.proofs.CallLaws.{lasts_then, rose_since}
 use Rattle.kb_changes.specs.Change.{do_change, done, request_at, requests_of, replies_of}
 use Rattle.kb_changes.specs.Groups.{run_of}
 use Rattle.kb_changes.specs.declared.change.Change.{Change}

@@ -15,7 +15,7 @@ use Rattle.kb_world.specs.declared.child.Request.{Request}
 use Rattle.kb_world.specs.declared.world.WorldError.{WorldError}
 use Rattle.kb_world.specs.declared.world.WorldError.TheVariants.{Failed, NoMemory}
 use Rattle.kb_world.proofs.CrashLaws.{adds_then, adds_none, adds_wider}
-use Rattle.kb_world.proofs.DoesLaws.{cause_then, ran_none_then}
+use Rattle.kb_world.proofs.CallLaws.{cause_then, ran_none_then}
 use Rattle.kb_changes.specs.Groups.{run_of}
 use Rattle.kb_changes.specs.declared.change.Change.{Change}
 use Rattle.kb_changes.specs.declared.change.Change.TheVariants as changes

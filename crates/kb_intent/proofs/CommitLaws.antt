@@ -15,7 +15,7 @@ use Rattle.kb_world.specs.declared.stop.Stop.TheVariants as stops
 use Rattle.kb_world.specs.declared.world.WorldError.{WorldError}
 use Rattle.kb_world.specs.declared.world.WorldError.TheVariants.{Failed, NoMemory}
 use Rattle.kb_world.proofs.CrashLaws.{turns_wider, turns_none, turns_adds_more}
-use Rattle.kb_world.proofs.DoesLaws.{cause_then, lasts_then, unchanged_none}
+use Rattle.kb_world.proofs.CallLaws.{cause_then, lasts_then, unchanged_none}
 use Rattle.kb_world.proofs.Told.{told_before}
 use Rattle.kb_changes.specs.Change.{requests_of}
 use Rattle.kb_changes.specs.Text.{AreTexts, IsJournal, intent_text}

@@ -12,7 +12,7 @@ use Rattle.kb_world.specs.declared.roots.Roots.{Roots}
 use Rattle.kb_world.specs.declared.world.WorldError.{WorldError}
 use Rattle.kb_world.specs.declared.world.WorldError.TheVariants.{Failed}
 use Rattle.kb_world.proofs.CrashLaws.{adds_then, adds_wider}
-use Rattle.kb_world.proofs.DoesLaws.{cause_then, lasts_then}
+use Rattle.kb_world.proofs.CallLaws.{cause_then, lasts_then}
 use Rattle.kb_changes.specs.Change.{done, requests_of}
 use Rattle.kb_changes.specs.Valid.{is_valid}
 use Rattle.kb_changes.specs.declared.change.Change.{Change}

@@ -18,7 +18,7 @@ use Rattle.kb_world.specs.declared.tree.Node.TheVariants as nodes
 use Rattle.kb_world.specs.declared.world.WorldError.{WorldError}
 use Rattle.kb_world.specs.declared.world.WorldError.TheVariants.{Failed, NoMemory}
 use Rattle.kb_world.proofs.CrashLaws.{adds_turns, turns_none, turns_wider}
-use Rattle.kb_world.proofs.DoesLaws.{cause_then, ran_none_then, unchanged_none}
+use Rattle.kb_world.proofs.CallLaws.{cause_then, ran_none_then, unchanged_none}
 use Rattle.kb_world.proofs.StepLaws.{parent-child, child-other}
 use Rattle.kb_changes.specs.Valid.{new_intent_path}
 use Rattle.kb_again.proofs.RootLaws.{same_last}

@@ -23,7 +23,7 @@ use Rattle.kb_world.specs.declared.tree.Node.TheVariants as nodes
 use Rattle.kb_world.specs.declared.world.WorldError.{WorldError}
 use Rattle.kb_world.specs.declared.world.WorldError.TheVariants.{Failed, NoMemory}
 use Rattle.kb_world.proofs.CrashLaws.{adds_none}
-use Rattle.kb_world.proofs.DoesLaws.{rose_since, unchanged_none}
+use Rattle.kb_world.proofs.CallLaws.{rose_since, unchanged_none}
 use Rattle.kb_changes.specs.Change.{done}
 use Rattle.kb_changes.specs.Text.{IsJournal}
 use Rattle.kb_changes.specs.declared.change.Intent.{Intent}

@@ -25,7 +25,7 @@ use Rattle.kb_world.specs.declared.tree.Node.TheVariants as nodes
 use Rattle.kb_world.specs.declared.world.WorldError.{WorldError}
 use Rattle.kb_world.specs.declared.world.WorldError.TheVariants.{Failed, NoMemory}
 use Rattle.kb_world.proofs.CrashLaws.{adds_none, adds_wider}
-use Rattle.kb_world.proofs.DoesLaws.{cause_then, lasts_then}
+use Rattle.kb_world.proofs.CallLaws.{cause_then, lasts_then}
 use Rattle.kb_world.proofs.LeftLaws.{left_same}
 use Rattle.kb_changes.specs.Change.{do_change, request_at}
 use Rattle.kb_changes.specs.declared.change.Change.{Change}

@@ -15,7 +15,7 @@ use Rattle.kb_world.specs.declared.tree.Node.TheVariants as nodes
 use Rattle.kb_world.specs.declared.world.WorldError.{WorldError}
 use Rattle.kb_world.specs.declared.world.WorldError.TheVariants.{Failed, NoMemory}
 use Rattle.kb_world.proofs.CrashLaws.{adds_none, adds_wider, turns_adds}
-use Rattle.kb_world.proofs.DoesLaws.{cause_then, ran_none_then}
+use Rattle.kb_world.proofs.CallLaws.{cause_then, ran_none_then}
 use Rattle.kb_walk.specs.Walking.{paths_below}
 use Rattle.kb_walk.proofs.WalkLaws.{below_entries}
 use Rattle.kb_walk.proofs.WipeCalls.{cause_handed, done_not_failed}

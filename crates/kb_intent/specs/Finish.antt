@@ -16,6 +16,7 @@ use Rattle.kb_changes.specs.Text.{IsJournal}
 use Rattle.kb_changes.specs.declared.change.Change.{Change}
 use Rattle.kb_changes.specs.declared.change.Intent.{Intent}
 use Rattle.kb_again.specs.Sparing.{AreSparing, areas_of}
+use Rattle.kb_machine.specs.Behind.{touched_by, LeavesBehind}
 use Rattle.kb_machine.specs.Commits.{transacted, IsCommitted}
 use Rattle.kb_machine.specs.Opens.{Opens}
 use Rattle.kb_machine.specs.Stands.{Stands, Rests}
@@ -47,6 +48,8 @@ store_after roots script changes tree = public_tree roots (done roots script cha
 -- survives a crash.
 pub record EndsTransaction (roots : Roots) (changes : List Change) (old new : State) (result : Result Ran WorldError) : Type 0 where
   pub done : ForSome old.tree (λ tree. IfOk result (IsFinished roots changes old new tree))
+  -- whatever it answers, of the children a front ran, and what is foreign differs where the changes touch it alone
+  pub behind : ForSome old.tree (λ tree. LeavesBehind roots (requests_of roots old.script changes tree) (touched_by changes) tree old new)
   pub survives : ForSome old.tree (λ tree. (intent : Intent) → HasJournal roots intent tree → intent.changes ≡ changes
       → AreSparing roots (areas_of changes) old.history.soft
       → KeepsOpening roots (store_after roots old.script changes tree) old new result)

@@ -12,6 +12,7 @@ use Rattle.kb_world.specs.declared.stop.Stop.TheVariants.{Refused, Fault}
 use Rattle.kb_changes.specs.Change.{requests_of}
 use Rattle.kb_changes.specs.declared.change.Intent.{Intent}
 use Rattle.kb_changes.specs.declared.change.Recovered.{Recovered}
+use Rattle.kb_machine.specs.Behind.{touched_by, LeavesBehind}
 use Rattle.kb_machine.specs.Commits.{transacted, IsCommitted}
 use Rattle.kb_machine.specs.Stands.{Stands}
 use Rattle.kb_intent.specs.Finish.{HasJournal, KeepsOpening}
@@ -49,6 +50,10 @@ pub record Recovers (roots : Roots) (old new : State) (result : Result (Option R
   pub found : ForSome old.tree (λ tree. IfOk result (FoundJournal roots old new tree))
   pub refused : (why : Refusal) → IsErrOf result (Refused why) → IsDamageTold roots old why
   pub damaged : ForSome old.tree (λ tree. HasDamagedJournal roots tree → Unchanged old new)
+  -- whatever it answers: without a journal nothing is changed, and of a journal's children a front ran
+  pub at_rest : ForSome old.tree (λ tree. node_at tree (intent_path roots) ≡ None → Unchanged old new)
+  pub behind : ForSome old.tree (λ tree. (intent : Intent) → HasJournal roots intent tree
+      → LeavesBehind roots (requests_of roots old.script intent.changes tree) (touched_by intent.changes) tree old new)
   pub survives : ForSome old.tree (λ tree. (store : Tree) → Stands roots store old → KeepsOpening roots store old new result)
   pub lasts : Lasts old new
   pub cause : HasCause Fault old new result

@@ -10,8 +10,8 @@ use Rattle.kb_world.specs.TreeLaws.{same_tree}
 use Rattle.kb_world.specs.Public.{intent_path, is_private, is_loose, is_public, public_tree, foreign_tree}
 use Rattle.kb_world.specs.Crash.{Adds}
 use Rattle.kb_world.specs.State.{State, HasCause, Lasts}
-use Rattle.kb_world.specs.Outcome.{Action}
-use Rattle.kb_world.specs.Does.{Answers}
+use Rattle.kb_machine.specs.Outcome.{Action}
+use Rattle.kb_machine.specs.Does.{Answers}
 use Rattle.kb_world.specs.declared.child.Area.{Area}
 use Rattle.kb_world.specs.declared.tree.Node.{Node}
 use Rattle.kb_world.specs.declared.roots.Roots.{Roots}
@@ -19,7 +19,8 @@ use Rattle.kb_world.specs.declared.job.Report.{Report}
 use Rattle.kb_world.specs.declared.stop.Stop.{Stop}
 use Rattle.kb_world.specs.declared.stop.Stop.TheVariants.{Refused, Fault, NoMemory}
 use Rattle.kb_world.proofs.CrashLaws.{adds_then, adds_wider}
-use Rattle.kb_world.proofs.DoesLaws.{cause_then, lasts_then, answers_since}
+use Rattle.kb_world.proofs.CallLaws.{cause_then, lasts_then}
+use Rattle.kb_machine.proofs.DoesLaws.{answers_since}
 use Rattle.kb_world.proofs.PathLaws.{under-self}
 use Rattle.kb_world.proofs.PublicLaws.{node_at-public_tree, node_at-foreign_tree}
 use Rattle.kb_changes.specs.Valid.{written_roots}

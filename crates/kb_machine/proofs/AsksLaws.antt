@@ -10,8 +10,8 @@ use Rattle.kb_world.specs.Layout.{united}
 use Rattle.kb_world.specs.Script.{answer, answer_in}
 use Rattle.kb_world.specs.Crash.{LeftOf, Adds}
 use Rattle.kb_world.specs.State.{State}
-use Rattle.kb_world.specs.Outcome.{Outcome, Action, ran_child, joined, asks}
-use Rattle.kb_world.specs.Does.{Asks, IsAsked}
+use Rattle.kb_machine.specs.Outcome.{Outcome, Action, ran_child, joined, asks}
+use Rattle.kb_machine.specs.Does.{Asks, IsAsked}
 use Rattle.kb_world.specs.declared.child.Area.{Area}
 use Rattle.kb_world.specs.declared.child.Area.TheVariants as areas
 use Rattle.kb_world.specs.declared.child.Request.{Request}
@@ -19,7 +19,7 @@ use Rattle.kb_world.specs.declared.child.Reply.{Reply}
 use Rattle.kb_world.specs.declared.roots.Roots.{Roots}
 use Rattle.kb_world.specs.declared.job.Report.{Report}
 use Rattle.kb_world.specs.declared.stop.Stop.{Stop}
-use Rattle.kb_world.proofs.ThenLaws as low
+use Rattle.kb_machine.proofs.OutcomeLaws as low
 use Rattle.kb_world.proofs.LayoutLaws.{view-whole}
 use Rattle.kb_world.proofs.CrashLaws.{adds_then, adds_wider}
 use Rattle.kb_machine.specs.Opens.{IsReady, Opens, own_areas}

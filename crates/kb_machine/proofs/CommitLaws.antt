@@ -6,15 +6,15 @@ use Rattle.kb_world.specs.Public.{public_tree, foreign_tree}
 use Rattle.kb_world.specs.Script.{Script}
 use Rattle.kb_world.specs.Crash.{Adds, History}
 use Rattle.kb_world.specs.State.{State}
-use Rattle.kb_world.specs.Outcome.{Outcome, Action}
-use Rattle.kb_world.specs.Does.{CameAbout}
+use Rattle.kb_machine.specs.Outcome.{Outcome, Action}
+use Rattle.kb_machine.specs.Does.{CameAbout}
 use Rattle.kb_world.specs.declared.child.Reply.{Reply}
 use Rattle.kb_world.specs.declared.roots.Roots.{Roots}
 use Rattle.kb_world.specs.declared.job.Report.{Report}
 use Rattle.kb_world.specs.declared.stop.Stop.{Stop}
 use Rattle.kb_world.specs.declared.stop.Stop.TheVariants.{Refused, Fault, NoMemory}
 use Rattle.kb_world.proofs.CrashLaws.{adds_wider, turns_adds}
-use Rattle.kb_world.proofs.DoesLaws.{cause_other}
+use Rattle.kb_world.proofs.CallLaws.{cause_other}
 use Rattle.kb_machine.specs.Stands.{Rests, Stands, OpensOneOf, StandsOneOf}
 use Rattle.kb_machine.specs.Commits.{TurnsOver, Transacted, Commits, CommitLeaves, CommitSurvives, IsCommitted}
 use Rattle.kb_machine.specs.Across.{Survives, LeavesStanding, DoesAcrossCrashes, SaysSo}

@@ -4,15 +4,15 @@ use Rattle.std.specs.Prelude.{Result, Ok, Err}
 use Rattle.kb_world.specs.Tree.{Tree}
 use Rattle.kb_world.specs.Public.{public_tree, foreign_tree}
 use Rattle.kb_world.specs.State.{State}
-use Rattle.kb_world.specs.Outcome.{Outcome, Action, last_of, joined}
-use Rattle.kb_world.specs.Does.{CameAbout, Answers}
+use Rattle.kb_machine.specs.Outcome.{Outcome, Action, last_of, joined}
+use Rattle.kb_machine.specs.Does.{CameAbout, Answers}
 use Rattle.kb_world.specs.declared.job.Report.{Report}
 use Rattle.kb_world.specs.declared.roots.Roots.{Roots}
 use Rattle.kb_world.specs.declared.refusal.Refusal.{Refusal}
 use Rattle.kb_world.specs.declared.stop.Stop.{Stop}
 use Rattle.kb_world.specs.declared.stop.Stop.TheVariants.{Refused, Fault, NoMemory}
-use Rattle.kb_world.proofs.DoesLaws.{cause_then, lasts_then}
-use Rattle.kb_world.proofs.ThenLaws.{last_of-append}
+use Rattle.kb_world.proofs.CallLaws.{cause_then, lasts_then}
+use Rattle.kb_machine.proofs.OutcomeLaws.{last_of-append}
 use Rattle.kb_machine.specs.Stands.{Rests}
 use Rattle.kb_machine.specs.Across.{Survives, DoesAcrossCrashes}
 use Rattle.kb_machine.proofs.ThenLaws.{survives_then}

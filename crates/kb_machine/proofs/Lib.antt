@@ -2,10 +2,12 @@ pub mod AsideLaws
 pub mod AsideThenLaws
 pub mod AsksLaws
 pub mod CommitLaws
+pub mod DoesLaws
 pub mod EachLaws
 pub mod FitLaws
 pub mod GatherLaws
 pub mod LookLaws
+pub mod OutcomeLaws
 pub mod RestLaws
 pub mod ThenLaws
 pub mod TransactLaws

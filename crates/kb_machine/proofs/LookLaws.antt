@@ -3,9 +3,9 @@ use Rattle.std.proofs.Common.{◌≡◌, ℕ, List, [], ◌∷◌, ◌++◌, Opt
 use Rattle.std.specs.Prelude.{Result, Ok, Err}
 use Rattle.std.specs.Option.{ForSome}
 use Rattle.kb_world.specs.Crash.{LeftOf, Adds, History}
-use Rattle.kb_world.specs.Does.{Agrees, Decides, Gives, IsAnswer}
+use Rattle.kb_world.specs.Read.{Agrees, Decides, Gives, IsAnswer}
 use Rattle.kb_world.specs.Layout.{united, whole_tree}
-use Rattle.kb_world.specs.Outcome.{Action, last_of, go_on, refuse_if, unless, by_answer, reads, warn, ◌then◌}
+use Rattle.kb_machine.specs.Outcome.{Action, last_of, go_on, refuse_if, unless, by_answer, reads, warn, ◌then◌}
 use Rattle.kb_world.specs.Public.{public_tree, foreign_tree}
 use Rattle.kb_world.specs.State.{State, HasCause, Lasts, Unchanged}
 use Rattle.kb_world.specs.Tree.{Tree}
@@ -15,8 +15,8 @@ use Rattle.kb_world.specs.declared.roots.Roots.{Roots}
 use Rattle.kb_world.specs.declared.stop.Stop.{Stop}
 use Rattle.kb_world.specs.declared.stop.Stop.TheVariants.{Refused, Fault, NoMemory}
 use Rattle.kb_world.proofs.CrashLaws.{adds_none}
-use Rattle.kb_world.proofs.DoesLaws as decides
-use Rattle.kb_world.proofs.ThenLaws as low
+use Rattle.kb_machine.proofs.DoesLaws as decides
+use Rattle.kb_machine.proofs.OutcomeLaws as low
 use Rattle.kb_again.specs.Sparing.{AreSparing}
 use Rattle.kb_machine.specs.Across.{Survives, LeavesStanding, SurvivesAs, DoesAcrossCrashes}
 use Rattle.kb_machine.specs.Opens.{IsReady, Opens, own_areas}

@@ -5,12 +5,12 @@ use Rattle.kb_world.specs.Tree.{Tree}
 use Rattle.kb_world.specs.Script.{Script}
 use Rattle.kb_world.specs.State.{State}
 use Rattle.kb_world.specs.Public.{public_tree, foreign_tree}
-use Rattle.kb_world.specs.Outcome.{Outcome, Action, last_of, joined, ◌then◌}
+use Rattle.kb_machine.specs.Outcome.{Outcome, Action, last_of, joined, ◌then◌}
 use Rattle.kb_world.specs.declared.roots.Roots.{Roots}
 use Rattle.kb_world.specs.declared.job.Report.{Report}
 use Rattle.kb_world.specs.declared.stop.Stop.{Stop}
 use Rattle.kb_world.specs.declared.stop.Stop.TheVariants.{Refused, Fault, NoMemory}
-use Rattle.kb_world.proofs.ThenLaws as low
+use Rattle.kb_machine.proofs.OutcomeLaws as low
 use Rattle.kb_machine.specs.Stands.{Rests, IsOneOf, OpensOneOf, StandsOneOf}
 use Rattle.kb_machine.specs.Across.{Survives, LeavesStanding, DoesAcrossCrashes}
 use Rattle.kb_world.proofs.CrashLaws.{adds_then, adds_wider}

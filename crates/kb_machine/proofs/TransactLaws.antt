@@ -4,11 +4,11 @@ use Rattle.std.proofs.lemmas.List.{append-nil}
 use Rattle.kb_world.specs.Path.{Path, is_under}
 use Rattle.kb_world.specs.Tree.{Tree, node_at, is_dir}
 use Rattle.kb_world.specs.TreeLaws.{same_tree, node_at-retain}
-use Rattle.kb_world.specs.Public.{intent_path, staging_path, is_private, is_public, public_tree, foreign_tree}
+use Rattle.kb_world.specs.Public.{intent_path, staging_path, is_foreign, is_private, is_public, public_tree, foreign_tree}
 use Rattle.kb_world.specs.Script.{Script, answer, answer_in, tree_after}
 use Rattle.kb_world.specs.View.{is_own}
 use Rattle.kb_world.specs.Layout.{united}
-use Rattle.kb_world.specs.Outcome.{Outcome, transaction, warn, asks, ◌then◌}
+use Rattle.kb_machine.specs.Outcome.{Outcome, transaction, warn, asks, ◌then◌}
 use Rattle.kb_world.specs.declared.roots.Roots.{Roots}
 use Rattle.kb_world.specs.declared.child.Area.TheVariants as areas
 use Rattle.kb_world.specs.declared.child.Reply.{Reply}
@@ -16,7 +16,7 @@ use Rattle.kb_world.specs.declared.child.Request.{Request}
 use Rattle.kb_world.specs.declared.tree.Node.{Node}
 use Rattle.kb_world.proofs.LayoutLaws.{view-whole}
 use Rattle.kb_world.proofs.PublicLaws.{node_at-public_tree, node_at-foreign_tree}
-use Rattle.kb_world.proofs.ThenLaws.{nothing_after}
+use Rattle.kb_machine.proofs.OutcomeLaws.{nothing_after}
 use Rattle.kb_changes.specs.Change.{do_change, done, request_at, requests_of, replies_of}
 use Rattle.kb_changes.specs.Groups.{runs_in}
 use Rattle.kb_changes.specs.Valid.{is_kept_out}
@@ -45,9 +45,6 @@ private_hidden roots q at own = by _ (is_private roots q) _ own
     by : (a b c : Bool) → b ≡ true → (a && not b && not c) ≡ false
     by true b c h = ap (λ x. not x && not c) h
     by false b c h = refl
-
-abbrev is_foreign : Roots → Path → Option Node → Bool
-is_foreign roots path at = not (is_public roots path at) && not (is_private roots path)
 
 private_unforeign : (roots : Roots) (q : Path) (at : Option Node) → is_private roots q ≡ true → is_foreign roots q at ≡ false
 private_unforeign roots q at own = by (is_public roots q at) (is_private roots q) own

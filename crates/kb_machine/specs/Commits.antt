@@ -1,7 +1,8 @@
 -- What a transaction does, whatever it changes. This project's own.
-use Rattle.std.specs.Prelude.{◌≡◌, ◌⊎◌, not, List, ◌++◌, Some, None, Result, Ok, Err, IfOk, IsErrOf}
+use Rattle.std.specs.Prelude.{◌≡◌, ◌⊎◌, Bool, not, List, ◌++◌, Some, None, Result, Ok, Err, IfOk, IsErrOf}
 use Rattle.std.specs.Option.{ForSome}
 use Rattle.std.specs.FinMap.{retain_keys}
+use Rattle.kb_world.specs.Path.{Path}
 use Rattle.kb_world.specs.Tree.{Tree, node_at}
 use Rattle.kb_world.specs.Public.{intent_path, public_tree}
 use Rattle.kb_world.specs.Script.{Script}
@@ -16,6 +17,7 @@ use Rattle.kb_world.specs.declared.stop.Stop.TheVariants.{Refused, Fault, NoMemo
 use Rattle.kb_changes.specs.Change.{done, requests_of, replies_of}
 use Rattle.kb_changes.specs.Valid.{is_kept_out}
 use Rattle.kb_changes.specs.declared.change.Change.{Change}
+use Rattle.kb_machine.specs.Behind.{touched_by, LeavesBehind}
 use Rattle.kb_machine.specs.Opens.{Opens}
 use Rattle.kb_machine.specs.Stands.{Rests, Stands}
 
@@ -28,11 +30,12 @@ pub record IsBareOf (roots : Roots) (store image : Tree) : Type 0 where
 abbrev pub TurnsOver : Roots → Script → Tree → Tree → History → History → Type 0
 TurnsOver roots script first second old new = Turns (IsBareOf roots first) (λ image. Opens roots script image second) old new
 
--- what a transaction makes of a tree: the tree, its children, and what they say
+-- what a transaction makes of a tree: the tree, its children, what they say, and which paths it may change meanwhile
 pub record Transacted : Type 0 where
   pub tree : Tree
   pub requests : List Request
   pub said : List Reply
+  pub touched : Path → Bool
 
 -- the tree without a journal and without what is staged
 abbrev pub cleaned : Roots → Tree → Tree
@@ -44,6 +47,7 @@ transacted roots script changes tree = record {
   tree = cleaned roots (done roots script changes tree);
   requests = requests_of roots script changes tree;
   said = replies_of roots script changes tree;
+  touched = touched_by changes;
 }
 
 pub record IsCommitted (made : Transacted) (old new : State) (replies : List Reply) : Type 0 where
@@ -63,9 +67,11 @@ pub record CommitSurvives (roots : Roots) (first second : Tree) (old new : State
   pub turns : TurnsOver roots old.script first second old.history new.history
   pub leaves : CommitLeaves roots first second result new
 
--- The call makes this of the tree, and is never refused. Where nothing was under way it survives a crash.
+-- The call makes this of the tree, and is never refused. Whatever it answers it leaves no more behind than the transaction
+-- may. Where nothing was under way it survives a crash.
 pub record Commits (roots : Roots) (made : Tree → Transacted) (old new : State) (result : Result (List Reply) Stop) : Type 0 where
   pub done : ForSome old.tree (λ tree. IfOk result (IsCommitted (made tree) old new))
+  pub behind : ForSome old.tree (λ tree. LeavesBehind roots (made tree).requests (made tree).touched tree old new)
   pub unrefused : (refusal : Refusal) → IsErrOf result (Refused refusal) → ⊥
   pub lasts : Lasts old new
   pub cause : HasCause Fault old new result

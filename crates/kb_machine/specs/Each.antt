@@ -4,7 +4,7 @@ use Rattle.std.specs.Prelude.{Bool, cond, List, [], ◌∷◌, Option, Result}
 use Rattle.kb_world.specs.Tree.{Tree}
 use Rattle.kb_world.specs.State.{State}
 use Rattle.kb_world.specs.Layout.{united}
-use Rattle.kb_world.specs.Outcome.{Action, print, last_of, joined, ◌then◌}
+use Rattle.kb_machine.specs.Outcome.{Action, print, last_of, joined, ◌then◌}
 use Rattle.kb_world.specs.declared.refusal.Refusal.{Refusal}
 use Rattle.kb_world.specs.declared.job.Report.{Report}
 use Rattle.kb_world.specs.declared.roots.Roots.{Roots}

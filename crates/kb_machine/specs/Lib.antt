@@ -1,7 +1,10 @@
 pub mod Across
 pub mod Aside
+pub mod Behind
 pub mod Commits
+pub mod Does
 pub mod Each
 pub mod Opens
+pub mod Outcome
 pub mod Stands
 pub mod Works

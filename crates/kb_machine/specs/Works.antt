@@ -4,7 +4,7 @@ use Rattle.std.specs.Option.{ForSome}
 use Rattle.kb_world.specs.Tree.{Tree}
 use Rattle.kb_world.specs.Public.{public_tree, foreign_tree}
 use Rattle.kb_world.specs.State.{State, HasCause, Lasts}
-use Rattle.kb_world.specs.Outcome.{Outcome, Action, joined}
+use Rattle.kb_machine.specs.Outcome.{Outcome, Action, joined}
 use Rattle.kb_world.specs.declared.child.Request.{Request}
 use Rattle.kb_world.specs.declared.roots.Roots.{Roots}
 use Rattle.kb_world.specs.declared.job.Report.{Report}
@@ -12,6 +12,7 @@ use Rattle.kb_world.specs.declared.refusal.Refusal.{Refusal}
 use Rattle.kb_world.specs.declared.stop.Stop.{Stop}
 use Rattle.kb_world.specs.declared.stop.Stop.TheVariants.{Refused, Fault, NoMemory}
 use Rattle.kb_machine.specs.Aside.{WorksAside}
+use Rattle.kb_machine.specs.Behind.{RanFront}
 
 -- the children that ran, what is said of them, and the value or the refusal
 pub record Work (T : Type 0) : Type 0 where
@@ -47,6 +48,7 @@ WorkAnswers work (Err NoMemory) old new before after = Unit {0}
 -- The call does the work, and changes what is aside alone.
 pub record Works {T : Type 0} (roots : Roots) (work : Tree → Tree → Work T) (old new : State) (before after : Report) (result : Result T Stop) : Type 0 where
   pub answers : ForSome old.tree (λ tree. old.roots ≡ roots → WorkAnswers (work (public_tree roots tree) (foreign_tree roots tree)) result old new before after)
+  pub ran : ForSome old.tree (λ tree. old.roots ≡ roots → RanFront (work (public_tree roots tree) (foreign_tree roots tree)).requests old new)
   pub aside : WorksAside roots old new
   pub lasts : Lasts old new
   pub cause : HasCause Fault old new result

@@ -2,14 +2,15 @@
 ghost use Rattle.std.specs.Prelude.{◌≡◌, ◌⊎◌, ◌<◌, ◌+◌, [], ◌∷◌, ◌++◌, List, ℕ, length, drop, flat_map, get_or, false, true, Ok, Err, Result, Some, Option};
 ghost use Rattle.std.specs.Option.{ForSome};
 ghost use Rattle.kb_world.specs.Layout.{whole_tree};
-ghost use Rattle.kb_world.specs.Outcome.{Action, asks, print, reads, transaction, unless, warn, ◌then◌};
+ghost use Rattle.kb_machine.specs.Outcome.{Action, asks, print, reads, transaction, unless, warn, ◌then◌};
 ghost use Rattle.kb_world.specs.Path.{Path};
 ghost use Rattle.kb_world.specs.Public.{intent_path, public_tree, foreign_tree};
 ghost use Rattle.kb_world.specs.Script.{Script};
 ghost use Rattle.kb_world.specs.State.{State, HasCause, Lasts, Runs};
 ghost use Rattle.kb_world.specs.Tree.{Tree, node_at, is_dir, IsFormed};
 ghost use Rattle.kb_world.specs.View.{is_own};
-ghost use Rattle.kb_world.specs.Does.{Asks, Decides};
+ghost use Rattle.kb_world.specs.Read.{Decides};
+ghost use Rattle.kb_machine.specs.Does.{Asks};
 ghost use Rattle.kb_world.specs.declared.child.Area.TheVariants as areas;
 ghost use Rattle.kb_world.specs.declared.child.Reply.{Reply};
 ghost use Rattle.kb_world.specs.declared.child.Request.{Request};

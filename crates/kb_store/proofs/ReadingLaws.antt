@@ -8,15 +8,14 @@ use Rattle.std.specs.FinMap.{keys}
 use Rattle.kb_world.specs.Path.{Path, is_under}
 use Rattle.kb_world.specs.Tree.{Tree, node_at, is_dir, IsFormed}
 use Rattle.kb_world.specs.TreeLaws.{same_path}
-use Rattle.kb_world.specs.Read.{IsRead}
+use Rattle.kb_world.specs.Read.{IsRead, Gives, IsAnswer}
 use Rattle.kb_world.specs.State.{State, Looks}
-use Rattle.kb_world.specs.Does.{Gives, IsAnswer}
 use Rattle.kb_world.specs.declared.stop.Stop.{Stop}
 use Rattle.kb_world.specs.declared.stop.Stop.TheVariants.{Refused, Fault, NoMemory}
 use Rattle.kb_world.specs.declared.world.WorldError.{WorldError}
 use Rattle.kb_world.specs.declared.world.WorldError.TheVariants.{Failed}
 use Rattle.kb_world.proofs.DamageLaws.{under-split}
-use Rattle.kb_world.proofs.DoesLaws.{cause_then, unchanged_then}
+use Rattle.kb_world.proofs.CallLaws.{cause_then, unchanged_then}
 use Rattle.kb_world.proofs.FormedLaws.{dir_above}
 use Rattle.kb_world.specs.Public.{is_private}
 use Rattle.kb_world.specs.Roots.{AreApart, is_below}

@@ -1,7 +1,7 @@
 -- What may be read again.
 use Rattle.std.proofs.Common.{◌≡◌, None, Ok, sym, ◌∙◌}
 use Rattle.std.specs.Option.{ForSome}
-use Rattle.kb_world.specs.Does.{Gives}
+use Rattle.kb_world.specs.Read.{Gives}
 use Rattle.kb_world.specs.Public.{public_tree}
 use Rattle.kb_world.specs.State.{State}
 use Rattle.kb_world.specs.Damage.{hurt}

@@ -2,9 +2,8 @@
 ghost use Rattle.std.specs.Prelude.{◌≡◌, ℕ, Some, None, IfOk, IfSome, OnOk, IsErrOf, IsTrue, is_some, true, map, Ok};
 ghost use Rattle.std.specs.Option.{ForSome};
 ghost use Rattle.kb_world.specs.Damage.{hurt};
-ghost use Rattle.kb_world.specs.Does.{Gives};
+ghost use Rattle.kb_world.specs.Read.{Gives, IsRead};
 ghost use Rattle.kb_world.specs.Public.{is_private, public_tree};
-ghost use Rattle.kb_world.specs.Read.{IsRead};
 ghost use Rattle.kb_world.specs.Roots.{AreApart};
 ghost use Rattle.kb_world.specs.State.{Looks};
 ghost use Rattle.kb_world.specs.Tree.{Tree, node_at, is_dir};

@@ -6,9 +6,8 @@ use Rattle.kb_world.specs.Path.{Path, child}
 use Rattle.kb_world.specs.Names.{is_name}
 use Rattle.kb_world.specs.Tree.{Tree, node_at, is_dir}
 use Rattle.kb_world.specs.State.{State, HasCause, Looks}
-use Rattle.kb_world.specs.Does.{Gives, IsAnswer}
-use Rattle.kb_world.specs.Read.{IsRead}
-use Rattle.kb_world.proofs.DoesLaws.{unchanged_then}
+use Rattle.kb_world.specs.Read.{Gives, IsAnswer, IsRead, unless_due}
+use Rattle.kb_world.proofs.CallLaws.{unchanged_then}
 use Rattle.kb_world.specs.declared.job.TokenChoice.{TokenChoice}
 use Rattle.kb_world.specs.declared.roots.Roots.{Roots}
 use Rattle.kb_world.specs.declared.refusal.Refusal.{Refusal}
@@ -18,7 +17,6 @@ use Rattle.kb_world.specs.declared.world.WorldError.{WorldError}
 use Rattle.kb_world.specs.declared.world.WorldError.TheVariants.{Failed}
 use Rattle.kb_token.specs.Sources.{Contents, contents_in, contents_of, all_sources}
 use Rattle.kb_token.specs.Facts.{facts, facts_for, facts_with, token_from, chosen_token, first_too_large}
-use Rattle.kb_world.specs.Read.{unless_due}
 use Rattle.kb_token.specs.Token.{token_of}
 use Rattle.kb_token.specs.declared.facts.BootFacts.{BootFacts}
 use Rattle.kb_token.specs.declared.sources.Content.{Content}

@@ -1,8 +1,7 @@
 // The boot facts.
 ghost use Rattle.std.specs.Prelude.{◌≡◌, IfOk};
 ghost use Rattle.std.specs.Option.{ForSome};
-ghost use Rattle.kb_world.specs.Does.{Gives};
-ghost use Rattle.kb_world.specs.Read.{IsRead};
+ghost use Rattle.kb_world.specs.Read.{Gives, IsRead};
 ghost use Rattle.kb_world.specs.State.{Looks};
 ghost use Rattle.kb_world.specs.Tree.{node_at, is_dir};
 ghost use Rattle.kb_token.specs.Facts as rule;

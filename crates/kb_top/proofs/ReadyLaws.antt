@@ -5,8 +5,8 @@ use Rattle.std.specs.List.{list_any}
 use Rattle.std.specs.Option.{ForSome}
 use Rattle.std.proofs.lemmas.List.{append-nil}
 use Rattle.kb_world.specs.Crash.{LeftOf, Adds}
-use Rattle.kb_world.specs.Does.{Answers}
-use Rattle.kb_world.specs.Outcome.{Outcome}
+use Rattle.kb_machine.specs.Does.{Answers}
+use Rattle.kb_machine.specs.Outcome.{Outcome}
 use Rattle.kb_world.specs.Public.{intent_path, staging_path, public_tree, foreign_tree}
 use Rattle.kb_world.specs.Path.{is_under}
 use Rattle.kb_world.specs.Script.{Script}
@@ -23,8 +23,8 @@ use Rattle.kb_world.specs.declared.stop.Stop.TheVariants.{Refused, Fault, NoMemo
 use Rattle.kb_world.specs.declared.tree.Node.TheVariants as nodes
 use Rattle.kb_world.proofs.CrashLaws.{adds_then, adds_wider}
 use Rattle.kb_world.proofs.PathLaws.{under-self}
-use Rattle.kb_world.proofs.DoesLaws.{cause_then, lasts_then}
-use Rattle.kb_world.proofs.ThenLaws.{stays_refused}
+use Rattle.kb_world.proofs.CallLaws.{cause_then, lasts_then}
+use Rattle.kb_machine.proofs.OutcomeLaws.{stays_refused}
 use Rattle.kb_changes.specs.Change.{done}
 use Rattle.kb_changes.specs.Text.{IsJournal}
 use Rattle.kb_changes.specs.Valid.{is_kept_out}

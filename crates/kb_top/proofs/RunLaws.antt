@@ -8,8 +8,8 @@ use Rattle.kb_world.specs.SinkState.{SinkState}
 use Rattle.kb_world.specs.Public.{public_tree}
 use Rattle.kb_world.specs.Script.{Script}
 use Rattle.kb_world.specs.Refusal.{message_of, fault_line, no_memory_line}
-use Rattle.kb_world.specs.Outcome.{Outcome, last_of}
-use Rattle.kb_world.specs.Does.{Answers}
+use Rattle.kb_machine.specs.Outcome.{Outcome, last_of}
+use Rattle.kb_machine.specs.Does.{Answers}
 use Rattle.kb_world.specs.declared.roots.Roots.{Roots}
 use Rattle.kb_world.specs.declared.job.Host.{Host}
 use Rattle.kb_world.specs.declared.job.Report.{Report}
@@ -19,7 +19,7 @@ use Rattle.kb_world.specs.declared.stop.Stop.TheVariants.{Refused, Fault, NoMemo
 use Rattle.kb_top.specs.declared.end.End.{End}
 use Rattle.kb_top.specs.declared.end.End.TheVariants as end
 use Rattle.kb_world.proofs.CrashLaws.{moments_since-added}
-use Rattle.kb_world.proofs.DoesLaws.{unchanged_none}
+use Rattle.kb_world.proofs.CallLaws.{unchanged_none}
 use Rattle.std.proofs.lemmas.List.{append-nil}
 use Rattle.kb_machine.specs.Across.{Survives, LeavesStanding}
 use Rattle.kb_machine.specs.Opens.{Opens}

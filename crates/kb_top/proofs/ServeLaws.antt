@@ -11,7 +11,7 @@ use Rattle.kb_world.specs.Roots.{AreApart}
 use Rattle.kb_world.specs.State.{State}
 use Rattle.kb_world.specs.Public.{public_tree}
 use Rattle.kb_world.specs.Layout.{whole_tree}
-use Rattle.kb_world.specs.Outcome.{refuse_if, print, ◌then◌}
+use Rattle.kb_machine.specs.Outcome.{refuse_if, print, ◌then◌}
 use Rattle.kb_world.specs.Read.{IsRead}
 use Rattle.kb_world.specs.declared.roots.Roots.{Roots}
 use Rattle.kb_world.specs.declared.job.Host.{Host}
@@ -23,7 +23,7 @@ use Rattle.kb_world.specs.declared.stop.Stop.TheVariants.{Refused, Fault, NoMemo
 use Rattle.kb_world.proofs.PublicLaws.{IsAlwaysPublic, in_dkms, in_src}
 use Rattle.kb_world.proofs.LayoutLaws.{whole_shown, public_whole}
 use Rattle.kb_world.proofs.CrashLaws.{adds_none}
-use Rattle.kb_world.proofs.ThenLaws.{stays_refused}
+use Rattle.kb_machine.proofs.OutcomeLaws.{stays_refused}
 use Rattle.kb_machine.specs.Across.{DoesAcrossCrashes}
 use Rattle.kb_machine.proofs.EachLaws.{printed, unprinted}
 use Rattle.kb_machine.proofs.LookLaws.{warned}

@@ -1,6 +1,6 @@
 -- What `dkms add` adds, as the code tells a package from a directory. This project's own.
 use Rattle.std.specs.Prelude.{Bool, true}
-use Rattle.kb_world.specs.Outcome.{Action}
+use Rattle.kb_machine.specs.Outcome.{Action}
 use Rattle.kb_world.specs.Script.{Script}
 use Rattle.kb_world.specs.Store.{is_key}
 use Rattle.kb_world.specs.declared.job.Host.{Host}

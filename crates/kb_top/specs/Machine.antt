@@ -6,7 +6,7 @@ use Rattle.kb_world.specs.Path.{Path}
 use Rattle.kb_world.specs.Tree.{Tree, node_at, is_dir}
 use Rattle.kb_world.specs.Public.{intent_path, public_tree, foreign_tree}
 use Rattle.kb_world.specs.Script.{Script}
-use Rattle.kb_world.specs.Outcome.{Outcome, Action, refuse_if, unless, print, warn, reads, ◌or◌, ◌then◌}
+use Rattle.kb_machine.specs.Outcome.{Outcome, Action, refuse_if, unless, print, warn, reads, ◌or◌, ◌then◌}
 use Rattle.kb_world.specs.declared.child.Request.{Request}
 use Rattle.kb_world.specs.declared.roots.Roots.{Roots}
 use Rattle.kb_world.specs.declared.job.Filter.{Filter}

@@ -5,8 +5,8 @@ use Rattle.kb_world.specs.Public.{public_tree}
 use Rattle.kb_world.specs.State.{State, Rose, Lasts, LeftSince, Unchanged}
 use Rattle.kb_world.specs.SinkState.{SinkState, grown}
 use Rattle.kb_world.specs.Refusal.{message_of, number_of, fault_line, no_memory_line}
-use Rattle.kb_world.specs.Outcome.{Outcome, last_of}
-use Rattle.kb_world.specs.Does.{IsTreeOf}
+use Rattle.kb_machine.specs.Outcome.{Outcome, last_of}
+use Rattle.kb_machine.specs.Does.{IsTreeOf}
 use Rattle.kb_world.specs.declared.roots.Roots.{Roots}
 use Rattle.kb_world.specs.declared.job.Host.{Host}
 use Rattle.kb_world.specs.declared.refusal.Refusal.{Refusal}
@@ -15,7 +15,7 @@ use Rattle.kb_words.specs.Words.{Word}
 use Rattle.kb_top.specs.declared.end.End.{End}
 use Rattle.kb_top.specs.declared.end.End.TheVariants as end
 use Rattle.kb_top.specs.Machine.{outcome_of, damaged_outcome}
-use Rattle.kb_top.specs.Serve.{ForReady, ForDamaged}
+use Rattle.kb_top.specs.Serve.{ForReady, ForDamaged, LeavesBehindAll}
 
 -- the exit status
 abbrev pub code_of : End → ℕ
@@ -136,6 +136,9 @@ pub record RunsCommand (host : Host) (words : List Word) (old new : Outside) (re
   -- where a store stands at the start, a crash at any moment leaves it or one of the machine's
   pub survives : ForReady host.roots old.world (λ tree ready found. (store : Tree) → Stands host.roots store old.world
       → RunSurvives host.roots store (outcome_of host old.world.script words tree ready found) old.world new.world result)
+  -- whatever it answers, it leaves no more behind than the machine's outcome may, and the journal that was found
+  pub behind : ForReady host.roots old.world (λ tree ready found.
+      LeavesBehindAll host.roots (outcome_of host old.world.script words tree ready found) found tree old.world new.world)
   -- it ends with a fault only where the outside's count rose, and says only the fixed line then
   pub fault : result ≡ end.Fault → IsFaulted old new
   -- and with a sink's fault only where a sink's count rose

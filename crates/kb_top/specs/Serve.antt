@@ -1,10 +1,11 @@
 -- What a command does to the world, and what it has to say of it. This project's own.
-use Rattle.std.specs.Prelude.{List, Option, Result}
+use Rattle.std.specs.Prelude.{Bool, false, ◌||◌, List, Option, Some, None, Result}
 use Rattle.std.specs.Option.{ForSome}
+use Rattle.kb_world.specs.Path.{Path}
 use Rattle.kb_world.specs.Tree.{Tree}
 use Rattle.kb_world.specs.Public.{public_tree}
 use Rattle.kb_world.specs.State.{State, HasCause, Lasts, Unchanged}
-use Rattle.kb_world.specs.Does.{Answers}
+use Rattle.kb_machine.specs.Does.{Answers}
 use Rattle.kb_world.specs.declared.roots.Roots.{Roots}
 use Rattle.kb_world.specs.declared.job.Host.{Host}
 use Rattle.kb_world.specs.declared.job.Report.{Report}
@@ -12,6 +13,8 @@ use Rattle.kb_world.specs.declared.stop.Stop.{Stop}
 use Rattle.kb_world.specs.declared.stop.Stop.TheVariants.{Fault}
 use Rattle.kb_changes.specs.declared.change.Intent.{Intent}
 use Rattle.kb_machine.specs.Across.{Survives}
+use Rattle.kb_machine.specs.Behind.{is_reached, touched_by, LeavesBehind}
+use Rattle.kb_machine.specs.Outcome.{Outcome}
 use Rattle.kb_machine.specs.Opens.{IsReady}
 use Rattle.kb_machine.specs.Stands.{Stands}
 use Rattle.kb_intent.specs.Recover.{HasDamagedJournal}
@@ -26,6 +29,16 @@ ForReady roots old Has = ForSome old.tree (λ tree. (ready : Tree) (found : Opti
 abbrev pub ForDamaged : Roots → State → (Tree → Type 0) → Type 0
 ForDamaged roots old Has = ForSome old.tree (λ tree. HasDamagedJournal roots tree → Has tree)
 
+-- what the changes of a journal may touch, if one was found
+abbrev pub touched_by_found : Option Intent → Path → Bool
+touched_by_found None path = false
+touched_by_found (Some intent) path = touched_by intent.changes path
+
+-- A front of the outcome's children ran, and what is foreign stands as it did, but where they or the journal that was found
+-- may change it.
+abbrev pub LeavesBehindAll : Roots → Outcome → Option Intent → Tree → State → State → Type 0
+LeavesBehindAll roots outcome found = LeavesBehind roots outcome.requests (λ path. is_reached outcome.requests path || touched_by_found found path)
+
 pub record Serves (host : Host) (words : List Word) (old new : State) (before after : Report) (result : Result (Unit {0}) Stop) : Type 0 where
   -- the world and the report after it are those of the words' outcome
   pub answers : ForReady host.roots old (λ tree ready found.
@@ -36,5 +49,8 @@ pub record Serves (host : Host) (words : List Word) (old new : State) (before af
   -- where a store stands, a crash leaves it or one of the outcome's
   pub survives : ForReady host.roots old (λ tree ready found. (store : Tree) → Stands host.roots store old
       → Survives host.roots store (outcome_of host old.script words tree ready found) old new result)
+  -- whatever it answers it leaves no more behind than the outcome may, and the journal that was found
+  pub behind : ForReady host.roots old (λ tree ready found.
+      LeavesBehindAll host.roots (outcome_of host old.script words tree ready found) found tree old new)
   pub lasts : Lasts old new
   pub cause : HasCause Fault old new result

@@ -1,5 +1,5 @@
 // The roots that a command needs.
-ghost use Rattle.kb_world.specs.Does.{Decides};
+ghost use Rattle.kb_world.specs.Read.{Decides};
 ghost use Rattle.kb_top.specs.Machine.{no_root, no_roots_of_add};
 
 use kb_world::{Kind, Path, Refusal, Roots, Stop, World};

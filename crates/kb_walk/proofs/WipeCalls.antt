@@ -15,7 +15,7 @@ use Rattle.kb_world.specs.declared.tree.Kind.TheVariants as kinds
 use Rattle.kb_world.specs.declared.world.WorldError.{WorldError}
 use Rattle.kb_world.specs.declared.world.WorldError.TheVariants.{Failed, NoMemory}
 use Rattle.kb_world.proofs.CrashLaws.{adds_then, adds_wider, adds_none, turns_adds}
-use Rattle.kb_world.proofs.DoesLaws.{cause_then, ran_none_then}
+use Rattle.kb_world.proofs.CallLaws.{cause_then, ran_none_then}
 use Rattle.kb_walk.specs.Walking.{entries, paths_below, met_at}
 use Rattle.kb_walk.specs.declared.walking.Met.{Met}
 use Rattle.kb_walk.specs.Wipe.{IsWipedInPart, LeftOfWipe, TakesAway, Wipes, without_all, without_tree, emptied}

@@ -16,7 +16,7 @@ use Rattle.kb_world.specs.declared.tree.Kind.TheVariants as kinds
 use Rattle.kb_world.specs.declared.world.WorldError.{WorldError}
 use Rattle.kb_world.specs.declared.world.WorldError.TheVariants.{Failed, NoMemory}
 use Rattle.kb_world.proofs.CrashLaws.{adds_then, adds_wider, adds_none, turns_adds, turns_none}
-use Rattle.kb_world.proofs.DoesLaws.{ran_none_then}
+use Rattle.kb_world.proofs.CallLaws.{ran_none_then}
 use Rattle.kb_walk.specs.Walking.{paths_below, met_at}
 use Rattle.kb_walk.specs.declared.walking.Met.{Met}
 use Rattle.kb_walk.specs.Wipe.{CanWipe, without_all}

@@ -1,8 +1,8 @@
 pub mod AboveLaws
 pub mod AddLaws
+pub mod CallLaws
 pub mod CrashLaws
 pub mod DamageLaws
-pub mod DoesLaws
 pub mod FormedLaws
 pub mod LayoutLaws
 pub mod LeftLaws
@@ -28,5 +28,4 @@ pub mod StepLaws
 pub mod StorePathLaws
 pub mod StoreSteps
 pub mod TargetsLaws
-pub mod ThenLaws
 pub mod Told

@@ -3,7 +3,7 @@ use Rattle.std.proofs.Common.{◌≤◌, arith}
 use Rattle.std.specs.Prelude.{IsTrue, Result}
 use Rattle.kb_world.specs.State.{State, Looks, Unchanged}
 use Rattle.kb_world.specs.declared.world.WorldError.{WorldError}
-use Rattle.kb_world.proofs.DoesLaws.{unchanged_none, unchanged_then}
+use Rattle.kb_world.proofs.CallLaws.{unchanged_none, unchanged_then}
 
 -- since then nothing was done but looks that succeeded
 pub record Quiet (old new : State) : Type 0 where

@@ -11,7 +11,7 @@ use Rattle.kb_world.specs.Roots.{AreApart, based_roots, each_apart}
 use Rattle.kb_world.specs.Tree.{Tree, node_at, with_node, is_dir}
 use Rattle.kb_world.specs.TreeLaws.{paths_exact, same_path, same_path-true, node_at-with_node, same_tree}
 pub use Rattle.kb_world.specs.Public.{IsAlwaysPublic}
-use Rattle.kb_world.specs.Public.{is_public, is_private, is_loose, public_tree, foreign_tree}
+use Rattle.kb_world.specs.Public.{is_foreign, is_public, is_private, is_loose, public_tree, foreign_tree}
 use Rattle.kb_world.specs.StorePath.{told_by, is_in_scratch}
 use Rattle.kb_world.specs.declared.roots.Roots.{Roots}
 use Rattle.kb_world.specs.declared.tree.Node.{Node}
@@ -112,9 +112,6 @@ in_src roots h rest plain at =
 pub node_at-public_tree : (roots : Roots) (tree : Tree) (q : Path) → node_at (public_tree roots tree) q ≡ cond (is_public roots q (node_at tree q)) (node_at tree q) None
 unfolding public_tree
 node_at-public_tree roots tree q = get-retain_keys tree (λ path. is_public roots path (node_at tree path)) q (λ x tied. ap (λ path. is_public roots path (node_at tree path)) (sym (paths_exact q x tied)))
-
-abbrev is_foreign : Roots → Path → Option Node → Bool
-is_foreign roots path at = not (is_public roots path at) && not (is_private roots path)
 
 pub node_at-foreign_tree : (roots : Roots) (tree : Tree) (q : Path) → node_at (foreign_tree roots tree) q ≡ cond (is_foreign roots q (node_at tree q)) (node_at tree q) None
 unfolding foreign_tree

@@ -2,13 +2,11 @@ pub mod Area
 pub mod Boxes
 pub mod Crash
 pub mod Damage
-pub mod Does
 pub mod Index
 pub mod Job
 pub mod Layout
 pub mod Moves
 pub mod Names
-pub mod Outcome
 pub mod Patch
 pub mod Path
 pub mod Public
@@ -20,8 +18,8 @@ pub mod SinkState
 pub mod State
 pub mod Steps
 pub mod Stop
-pub mod StorePath
 pub mod Store
+pub mod StorePath
 pub mod Targets
 pub mod Tree
 pub mod TreeLaws

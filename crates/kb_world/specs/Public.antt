@@ -1,5 +1,5 @@
 -- Which part of the tree is whose. This project's own.
-use Rattle.std.specs.Prelude.{◌≡◌, ◌+◌, Bool, true, ◌&&◌, ◌||◌, not, List, [], ◌∷◌, length, nat_eq, Option, codes}
+use Rattle.std.specs.Prelude.{◌≡◌, ◌+◌, Bool, true, false, ◌&&◌, ◌||◌, not, List, [], ◌∷◌, length, nat_eq, Option, codes}
 use Rattle.std.specs.List.{list_any}
 use Rattle.std.specs.FinMap.{retain_keys}
 use Rattle.kb_world.specs.Path.{Path, child, is_under}
@@ -38,10 +38,18 @@ is_public roots path at =
 unfoldable pub public_tree : Roots → Tree → Tree
 public_tree roots tree = retain_keys tree (λ path. is_public roots path (node_at tree path))
 
--- the foreign tree: all that is neither public nor private
+-- neither public nor private
+abbrev pub is_foreign : Roots → Path → Option Node → Bool
+is_foreign roots path at = not (is_public roots path at) && not (is_private roots path)
+
+-- the foreign tree
 unfoldable pub foreign_tree : Roots → Tree → Tree
-foreign_tree roots tree = retain_keys tree (λ path. not (is_public roots path (node_at tree path)) && not (is_private roots path))
+foreign_tree roots tree = retain_keys tree (λ path. is_foreign roots path (node_at tree path))
 
 -- whatever stands at the path, it is public
 abbrev pub IsAlwaysPublic : Roots → Path → Type 0
 IsAlwaysPublic roots path = (at : Option Node) → is_public roots path at ≡ true
+
+-- whatever stands at the path, it isn't foreign
+abbrev pub IsNeverForeign : Roots → Path → Type 0
+IsNeverForeign roots path = (at : Option Node) → is_foreign roots path at ≡ false

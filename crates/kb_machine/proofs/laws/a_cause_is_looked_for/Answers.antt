@@ -1,7 +1,7 @@
 use Rattle.std.proofs.Common.{subst, sym}
-use Rattle.kb_world.specs.Does.{Decides}
+use Rattle.kb_world.specs.Read.{Decides}
 use Rattle.kb_machine.specs.Across.{DoesAcrossCrashes}
-use Rattle.kb_world.specs.Outcome.{unless, ◌then◌}
+use Rattle.kb_machine.specs.Outcome.{unless, ◌then◌}
 use Rattle.kb_machine.proofs.LookLaws.{refused, passed}
 use Rattle.kb_machine.proofs.laws.a_cause_is_looked_for.Goals as goal
 

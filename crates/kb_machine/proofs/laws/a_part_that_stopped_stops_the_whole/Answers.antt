@@ -1,5 +1,5 @@
 use Rattle.std.proofs.Common.{subst, sym}
-use Rattle.kb_world.specs.Outcome.{◌then◌}
+use Rattle.kb_machine.specs.Outcome.{◌then◌}
 use Rattle.kb_machine.specs.Across.{DoesAcrossCrashes}
 use Rattle.kb_machine.proofs.EachLaws.{does_cut}
 use Rattle.kb_machine.proofs.laws.a_part_that_stopped_stops_the_whole.Goals as goal

@@ -1,5 +1,5 @@
 use Rattle.std.proofs.Common.{subst, sym}
-use Rattle.kb_world.specs.Outcome.{print}
+use Rattle.kb_machine.specs.Outcome.{print}
 use Rattle.kb_machine.specs.Across.{DoesAcrossCrashes}
 use Rattle.kb_machine.proofs.EachLaws.{printed, unprinted}
 use Rattle.kb_machine.proofs.laws.a_text_is_printed.Goals as goal

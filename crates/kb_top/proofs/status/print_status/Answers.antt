@@ -1,5 +1,5 @@
 -- The store is read, and then its status is printed.
-use Rattle.kb_world.specs.Outcome.{print}
+use Rattle.kb_machine.specs.Outcome.{print}
 use Rattle.kb_world.specs.Public.{public_tree}
 use Rattle.kb_machine.proofs.EachLaws.{printed, unprinted}
 use Rattle.kb_machine.proofs.LookLaws.{unread, read_on}

@@ -5,7 +5,8 @@ use Rattle.kb_world.specs.Tree.{Tree}
 use Rattle.kb_world.specs.Public.{public_tree, foreign_tree}
 use Rattle.kb_world.specs.Crash.{LeftOf, Adds}
 use Rattle.kb_world.specs.State.{State, HasCause, Lasts, RanNone, Unchanged, IsGiven}
-use Rattle.kb_world.specs.Outcome.{Outcome, Action, last_of}
+use Rattle.kb_machine.specs.Behind.{RanFront}
+use Rattle.kb_machine.specs.Outcome.{Outcome, Action, last_of}
 use Rattle.kb_world.specs.Script.{answer_in}
 use Rattle.kb_world.specs.declared.child.Area.TheVariants as area
 use Rattle.kb_world.specs.declared.child.Reply.{Reply}
@@ -15,33 +16,6 @@ use Rattle.kb_world.specs.declared.job.Report.{Report}
 use Rattle.kb_world.specs.declared.refusal.Refusal.{Refusal}
 use Rattle.kb_world.specs.declared.stop.Stop.{Stop}
 use Rattle.kb_world.specs.declared.stop.Stop.TheVariants.{Refused, Fault, NoMemory}
-
--- The call went on where no refusal is due, and was refused exactly so where one is. A fault and want of memory tell
--- nothing.
-abbrev pub Agrees : {T : Type 0} → Result T Stop → Option Refusal → Type 0
-Agrees (Ok value) due = due ≡ None
-Agrees (Err (Refused refusal)) due = due ≡ Some refusal
-Agrees (Err Fault) due = Unit {0}
-Agrees (Err NoMemory) due = Unit {0}
-
--- The call changes nothing, and is refused exactly where this finds a cause in the tree.
-pub record Decides (due : Tree → Option Refusal) {T : Type 0} (old new : State) (result : Result T Stop) : Type 0 where
-  pub agrees : ForSome old.tree (λ tree. Agrees result (due tree))
-  pub unchanged : Unchanged old new
-  pub cause : HasCause Fault old new result
-
--- The call answered the value or the refusal. A fault and want of memory tell nothing.
-abbrev pub IsAnswer : {T : Type 0} → Result T Stop → Result T Refusal → Type 0
-IsAnswer (Ok value) right = right ≡ Ok value
-IsAnswer (Err (Refused due)) right = right ≡ Err due
-IsAnswer (Err Fault) right = Unit {0}
-IsAnswer (Err NoMemory) right = Unit {0}
-
--- The call changes nothing, and answers what this says of the tree.
-pub record Gives {T : Type 0} (right : Tree → Result T Refusal) (old new : State) (result : Result T Stop) : Type 0 where
-  pub answers : ForSome old.tree (λ tree. IsAnswer result (right tree))
-  pub unchanged : Unchanged old new
-  pub cause : HasCause Fault old new result
 
 -- a child was run, which changed nothing, and its reply is the script's
 pub record IsAsked (request : Request) (old new : State) (reply : Reply) (tree : Tree) : Type 0 where
@@ -53,17 +27,12 @@ pub record IsAsked (request : Request) (old new : State) (reply : Reply) (tree :
 pub record Asks (request : Request) (old new : State) (result : Result Reply Stop) : Type 0 where
   pub asked : IfOk result (λ reply. ForSome old.tree (IsAsked request old new reply))
   pub tree : new.tree ≡ old.tree
+  -- whatever it answers, it was run or not
+  pub ran : ForSome old.tree (λ tree. RanFront (request ∷ []) old new)
   pub soft : (new.history.soft ≡ old.history.soft) ⊎ IsGiven area.Nothing old new
   pub moments : Adds (LeftOf (area.Nothing ∷ old.history.soft) old.tree) old.history new.history
   pub unrefused : (refusal : Refusal) → IsErrOf result (Refused refusal) → ⊥
   pub lasts : Lasts old new
-  pub cause : HasCause Fault old new result
-
--- The call changes the tree so, and is never refused.
-pub record Transforms (change : Tree → Tree) {T : Type 0} (old new : State) (result : Result T Stop) : Type 0 where
-  pub done : OnOk result (new.tree ≡ option_map change old.tree)
-  pub unrefused : (refusal : Refusal) → IsErrOf result (Refused refusal) → ⊥
-  pub ran_none : RanNone old new
   pub cause : HasCause Fault old new result
 
 -- the tree has this store, and this foreign tree

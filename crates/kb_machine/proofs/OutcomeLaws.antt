@@ -11,8 +11,9 @@ use Rattle.kb_world.specs.Crash.{LeftOf, Adds}
 use Rattle.kb_world.specs.View.{is_own, view_of}
 use Rattle.kb_world.specs.State.{State, HasCause, Lasts, IsReplied, Runs}
 use Rattle.kb_world.specs.Public.{public_tree, foreign_tree}
-use Rattle.kb_world.specs.Outcome.{Outcome, Action, last_of, refuse_if, joined, go_on, warn, by_answer, reads, ran_child, asks, ◌then◌}
-use Rattle.kb_world.specs.Does.{CameAbout, Does, Gives, Asks, IsAsked, Answers}
+use Rattle.kb_machine.specs.Outcome.{Outcome, Action, last_of, refuse_if, joined, go_on, warn, by_answer, reads, ran_child, asks, ◌then◌}
+use Rattle.kb_world.specs.Read.{Gives}
+use Rattle.kb_machine.specs.Does.{CameAbout, Does, Asks, IsAsked, Answers}
 use Rattle.kb_world.specs.Layout.{united, whole_tree}
 use Rattle.kb_world.specs.Script.{Script, answer, answer_in, after_edits, edit_of, tree_after}
 use Rattle.kb_world.specs.Stop.{stop_for}
@@ -28,7 +29,8 @@ use Rattle.kb_world.specs.declared.job.Report.{Report}
 use Rattle.kb_world.specs.declared.refusal.Refusal.{Refusal}
 use Rattle.kb_world.specs.declared.stop.Stop.{Stop}
 use Rattle.kb_world.specs.declared.stop.Stop.TheVariants.{Refused, Fault, NoMemory}
-use Rattle.kb_world.proofs.DoesLaws.{cause_then, lasts_then, answers_since, no_cause}
+use Rattle.kb_world.proofs.CallLaws.{cause_then, lasts_then, no_cause}
+use Rattle.kb_machine.proofs.DoesLaws.{answers_since}
 use Rattle.kb_world.proofs.LayoutLaws.{view-whole}
 
 -- ---- one outcome after another
