@@ -7,6 +7,7 @@ pub mod EachLaws
 pub mod FitLaws
 pub mod GatherLaws
 pub mod LookLaws
+pub mod OnceLaws
 pub mod OutcomeLaws
 pub mod RestLaws
 pub mod ThenLaws

@@ -6,5 +6,6 @@ pub mod Does
 pub mod Each
 pub mod Opens
 pub mod Outcome
+pub mod Repeat
 pub mod Stands
 pub mod Works
