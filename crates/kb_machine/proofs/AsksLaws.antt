@@ -1,5 +1,5 @@
 -- A child that may change nothing leaves a world at rest.
-use Rattle.std.proofs.Common.{◌≡◌, ◌⊎◌, false, List, ◌∷◌, Option, Some, None, refl, sym, ap, ◌∙◌, subst, inl, inr}
+use Rattle.std.proofs.Common.{◌≡◌, ◌⊎◌, false, List, [], ◌∷◌, Option, Some, None, refl, sym, ap, ◌∙◌, subst, inl, inr}
 use Rattle.std.specs.Prelude.{Result, Ok}
 use Rattle.std.proofs.lemmas.Bool.{true≢false}
 use Rattle.kb_world.specs.Path.{Path}
@@ -26,6 +26,8 @@ use Rattle.kb_machine.specs.Opens.{IsReady, Opens, own_areas}
 use Rattle.kb_again.specs.Sparing.{IsSparing, AreSparing}
 use Rattle.kb_machine.specs.Stands.{Stands, Rests, OpensOneOf}
 use Rattle.kb_machine.specs.Across.{Survives, LeavesStanding, DoesAcrossCrashes}
+use Rattle.kb_machine.specs.Behind.{LeavesBehindOf}
+use Rattle.kb_machine.proofs.BehindLaws.{front_all, behind_same, behind_then}
 
 left_less : (soft : List Area) (tree : Option Tree) (image : Tree) → LeftOf (areas.Nothing ∷ soft) tree image → LeftOf soft tree image
 left_less soft None image left = left
@@ -67,6 +69,13 @@ leaves_joined : (roots : Roots) (store : Tree) (request : Request) (foreign : Tr
     → LeavesStanding roots store second.after result new → LeavesStanding roots store (joined (ran_child request foreign) second).after result new
 leaves_joined roots store request foreign second new result leaves = leaves
 
+-- the reply is to what the child sees of the store and the foreign tree
+is_heard : (roots : Roots) (request : Request) (old mid : State) (reply : Reply) (tree : Tree) → ((q : Path) → is_own request.area q ≡ false) → old.roots ≡ roots → IsAsked request old mid reply tree
+    → reply ≡ (answer_in roots old.script request (united (public_tree roots tree) (foreign_tree roots tree))).reply
+is_heard roots request old mid reply tree none rooted is =
+    is.said ∙ ap (λ r. (answer_in r old.script request tree).reply) rooted
+    ∙ ap (λ view. (answer old.script request view).reply) (sym (view-whole roots request tree none))
+
 pub does_asks : (roots : Roots) (request : Request) (next : Reply → Action) (reply : Reply) (old mid new : State) (before after : Report) (result : Result (Unit {0}) Stop)
     → ((q : Path) → is_own request.area q ≡ false)
     → Asks request old mid (Ok reply) → DoesAcrossCrashes roots (next reply) mid new before after result
@@ -78,15 +87,21 @@ does_asks roots request next reply old mid new before after result none a b =
           let store = public_tree roots tree in
           let foreign = foreign_tree roots tree in
           let is : IsAsked request old mid reply tree = a.asked tree told in
-          let said : reply ≡ (answer_in roots old.script request (united store foreign)).reply =
-          is.said ∙ ap (λ r. (answer_in r old.script request tree).reply) rooted
-          ∙ ap (λ view. (answer old.script request view).reply) (sym (view-whole roots request tree none)) in
           let two : Survives roots store (next reply store foreign) mid new result = b.survives tree is.same (a.lasts.roots ∙ rooted) (still_rests roots store old mid a.tree a.soft a.lasts.script rests) in
           let P : Reply → Type 0 = λ r. Survives roots store (joined (ran_child request foreign) (next r store foreign)) old new result in
-          subst P said (record {
+          subst P (is_heard roots request old mid reply tree none rooted is) (record {
             each_moment = adds_then (OpensOneOf roots old.script (store ∷ (next reply store foreign).after)) old.history mid.history new.history
                 (still_opens roots store old mid a.tree a.soft a.lasts.script (next reply store foreign).after rests.stands a.moments)
                 (subst (λ script. Adds (OpensOneOf roots script (store ∷ (next reply store foreign).after)) mid.history new.history) a.lasts.script two.each_moment);
             end = leaves_joined roots store request foreign (next reply store foreign) new result two.end;
           });
+      behind = λ tree told rooted.
+          let store = public_tree roots tree in
+          let foreign = foreign_tree roots tree in
+          let is : IsAsked request old mid reply tree = a.asked tree told in
+          let first = ran_child request foreign in
+          let P : Reply → Type 0 = λ r. LeavesBehindOf roots (joined first (next r store foreign)) tree old new in
+          subst P (is_heard roots request old mid reply tree none rooted is)
+          (behind_then roots first (next reply store foreign) tree tree old mid new is.same is.ran
+          (behind_same roots first tree tree old mid is.same refl (front_all (request ∷ []) old mid is.ran)) (b.behind tree is.same (a.lasts.roots ∙ rooted)));
     }

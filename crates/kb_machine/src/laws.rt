@@ -4,7 +4,7 @@ ghost use Rattle.std.specs.Option.{ForSome};
 ghost use Rattle.kb_world.specs.Layout.{whole_tree};
 ghost use Rattle.kb_machine.specs.Outcome.{Action, asks, print, reads, transaction, unless, warn, ◌then◌};
 ghost use Rattle.kb_world.specs.Path.{Path};
-ghost use Rattle.kb_world.specs.Public.{intent_path, public_tree, foreign_tree};
+ghost use Rattle.kb_world.specs.Public.{IsNeverForeign, intent_path, public_tree, foreign_tree};
 ghost use Rattle.kb_world.specs.Script.{Script};
 ghost use Rattle.kb_world.specs.State.{State, HasCause, Lasts, Runs};
 ghost use Rattle.kb_world.specs.Tree.{Tree, node_at, is_dir, IsFormed};
@@ -28,6 +28,7 @@ ghost use Rattle.kb_changes.specs.declared.change.Change.TheVariants.{Run};
 ghost use Rattle.kb_again.specs.Sparing.{AreSparing};
 ghost use Rattle.kb_machine.specs.Across.{DoesAcrossCrashes, SaysSo};
 ghost use Rattle.kb_machine.specs.Aside.{IsAsideArea, WorksAside};
+ghost use Rattle.kb_machine.specs.Behind.{touched_by};
 ghost use Rattle.kb_machine.specs.Commits.{Transacted, Commits, transacted};
 ghost use Rattle.kb_machine.specs.Each.{each, gathers, Leads};
 ghost use Rattle.kb_machine.specs.Stands.{Rests};
@@ -76,7 +77,7 @@ pub fn what_is_aside_is_no_action()
         → DoesAcrossCrashes roots action mid new before after result → DoesAcrossCrashes roots action old new before after result }
     ensures stopped { (roots : Roots) (action : Action) (old new : State) (before after : Report) (result aside : Result (Unit {0}) Stop)
         → (result ≡ Err Fault) ⊎ (result ≡ Err NoMemory) → aside ≡ result
-        → ((tree : Tree) → old.tree ≡ Some tree → IsFormed tree) → WorksAside roots old new → Lasts old new → HasCause Fault old new aside
+        → ((tree : Tree) → old.tree ≡ Some tree → IsFormed tree) → WorksAside roots old new → new.ran ≡ old.ran → Lasts old new → HasCause Fault old new aside
         → DoesAcrossCrashes roots action old new before after result }
 {}
 
@@ -96,13 +97,15 @@ pub fn an_action_is_one_transaction()
 {}
 
 /// A step, its line, and a child behind it that may change nothing, if there is one, are one transaction of changes that
-/// make that step.
+/// make that step and touch nothing that may be foreign.
 pub fn a_step_and_a_child_are_one_transaction()
     ensures alone { (roots : Roots) (script : Script) (changes : List Change) (step : Tree → Tree) (line : List ℕ) (text : Reply → List ℕ) (tree : Tree) → runs_in changes ≡ []
         → public_tree roots (done roots script changes tree) ≡ step (public_tree roots tree) → foreign_tree roots (done roots script changes tree) ≡ foreign_tree roots tree
+        → ((path : Path) → touched_by changes path ≡ true → IsNeverForeign roots path)
         → SaysSo roots (transaction step line then warn []) (transacted roots script changes) line (flat_map text) tree }
     ensures asked { (roots : Roots) (script : Script) (changes : List Change) (step : Tree → Tree) (line : List ℕ) (text : Reply → List ℕ) (tree : Tree) (request : Request) → runs_in changes ≡ []
         → public_tree roots (done roots script changes tree) ≡ step (public_tree roots tree) → foreign_tree roots (done roots script changes tree) ≡ foreign_tree roots tree
+        → ((path : Path) → touched_by changes path ≡ true → IsNeverForeign roots path)
         → request.area ≡ areas.Nothing → is_dir (node_at (done roots script changes tree) request.dir) ≡ true
         → SaysSo roots (transaction step line then asks roots script request (λ reply. warn (text reply))) (transacted roots script (changes ++ Run request ∷ [])) line (flat_map text) tree }
 {}
