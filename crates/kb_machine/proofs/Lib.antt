@@ -10,6 +10,7 @@ pub mod GatherLaws
 pub mod LookLaws
 pub mod OutcomeLaws
 pub mod RestLaws
+pub mod SparesLaws
 pub mod ThenLaws
 pub mod TransactLaws
 pub mod WorksLaws

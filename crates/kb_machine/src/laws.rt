@@ -3,8 +3,10 @@ ghost use Rattle.std.specs.Prelude.{◌≡◌, ◌⊎◌, ◌<◌, ◌+◌, [], 
 ghost use Rattle.std.specs.Option.{ForSome};
 ghost use Rattle.kb_world.specs.Layout.{whole_tree};
 ghost use Rattle.kb_machine.specs.Outcome.{Action, asks, print, reads, transaction, unless, warn, ◌then◌};
+ghost use Rattle.kb_world.specs.Patch.{Patch};
 ghost use Rattle.kb_world.specs.Path.{Path};
 ghost use Rattle.kb_world.specs.Public.{IsNeverForeign, intent_path, public_tree, foreign_tree};
+ghost use Rattle.kb_world.specs.Roots.{AreApart};
 ghost use Rattle.kb_world.specs.Script.{Script};
 ghost use Rattle.kb_world.specs.State.{State, HasCause, Lasts, Runs};
 ghost use Rattle.kb_world.specs.Tree.{Tree, node_at, is_dir, IsFormed};
@@ -22,6 +24,8 @@ ghost use Rattle.kb_world.specs.declared.stop.Stop.{Stop};
 ghost use Rattle.kb_world.specs.declared.stop.Stop.TheVariants.{Refused, Fault, NoMemory};
 ghost use Rattle.kb_world.specs.declared.world.WorldError.{WorldError};
 ghost use Rattle.kb_changes.specs.Change.{done};
+ghost use Rattle.kb_changes.specs.Changes.{changes_of};
+ghost use Rattle.kb_changes.specs.Fit.{IsFit};
 ghost use Rattle.kb_changes.specs.Groups.{runs_in};
 ghost use Rattle.kb_changes.specs.declared.change.Change.{Change};
 ghost use Rattle.kb_changes.specs.declared.change.Change.TheVariants.{Run};
@@ -108,6 +112,12 @@ pub fn a_step_and_a_child_are_one_transaction()
         → ((path : Path) → touched_by changes path ≡ true → IsNeverForeign roots path)
         → request.area ≡ areas.Nothing → is_dir (node_at (done roots script changes tree) request.dir) ≡ true
         → SaysSo roots (transaction step line then asks roots script request (λ reply. warn (text reply))) (transacted roots script (changes ++ Run request ∷ [])) line (flat_map text) tree }
+{}
+
+/// What the changes of a fitting patch touch is never foreign.
+pub fn a_patch_touches_nothing_foreign()
+    ensures { (roots : Roots) → AreApart roots → (patch : Patch) (tree : Tree) → IsFit roots patch tree → (path : Path)
+        → touched_by (changes_of roots patch) path ≡ true → IsNeverForeign roots path }
 {}
 
 /// A call that only looks comes before an action: where it finds a cause the action is refused, else it goes on.
