@@ -1,6 +1,7 @@
 -- A child that may change nothing leaves a world at rest.
 use Rattle.std.proofs.Common.{◌≡◌, ◌⊎◌, false, List, [], ◌∷◌, Option, Some, None, refl, sym, ap, ◌∙◌, subst, inl, inr}
-use Rattle.std.specs.Prelude.{Result, Ok}
+use Rattle.std.specs.Option.{ForSome}
+use Rattle.std.specs.Prelude.{Result, Ok, Err}
 use Rattle.std.proofs.lemmas.Bool.{true≢false}
 use Rattle.kb_world.specs.Path.{Path}
 use Rattle.kb_world.specs.Tree.{Tree}
@@ -19,15 +20,17 @@ use Rattle.kb_world.specs.declared.child.Reply.{Reply}
 use Rattle.kb_world.specs.declared.roots.Roots.{Roots}
 use Rattle.kb_world.specs.declared.job.Report.{Report}
 use Rattle.kb_world.specs.declared.stop.Stop.{Stop}
+use Rattle.kb_world.specs.declared.stop.Stop.TheVariants.{Refused, Fault, NoMemory}
+use Rattle.kb_world.proofs.CallLaws.{cause_other}
 use Rattle.kb_machine.proofs.OutcomeLaws as low
 use Rattle.kb_world.proofs.LayoutLaws.{view-whole}
 use Rattle.kb_world.proofs.CrashLaws.{adds_then, adds_wider}
 use Rattle.kb_machine.specs.Opens.{IsReady, Opens, own_areas}
 use Rattle.kb_again.specs.Sparing.{IsSparing, AreSparing}
 use Rattle.kb_machine.specs.Stands.{Stands, Rests, OpensOneOf}
-use Rattle.kb_machine.specs.Across.{Survives, LeavesStanding, DoesAcrossCrashes}
-use Rattle.kb_machine.specs.Behind.{LeavesBehindOf}
-use Rattle.kb_machine.proofs.BehindLaws.{front_all, behind_same, behind_then}
+use Rattle.kb_machine.specs.Across.{Survives, LeavesStanding, LeavesBehindAs, DoesAcrossCrashes}
+use Rattle.kb_machine.specs.Behind.{RanFront, LeavesBehindOf}
+use Rattle.kb_machine.proofs.BehindLaws.{front_all, behind_same, behind_first, behind_then}
 
 left_less : (soft : List Area) (tree : Option Tree) (image : Tree) → LeftOf (areas.Nothing ∷ soft) tree image → LeftOf soft tree image
 left_less soft None image left = left
@@ -105,3 +108,45 @@ does_asks roots request next reply old mid new before after result none a b =
           (behind_then roots first (next reply store foreign) tree tree old mid new is.same is.ran
           (behind_same roots first tree tree old mid is.same refl (front_all (request ∷ []) old mid is.ran)) (b.behind tree is.same (a.lasts.roots ∙ rooted)));
     }
+
+-- it was run or not
+behind_unasked : (roots : Roots) (request : Request) (next : Reply → Action) (old new : State) → new.tree ≡ old.tree → ForSome old.tree (λ tree. RanFront (request ∷ []) old new)
+    → LeavesBehindAs roots (asks roots old.script request next) old new
+behind_unasked roots request next old new same ran tree told rooted =
+    let store = public_tree roots tree in
+    let foreign = foreign_tree roots tree in
+    let first = ran_child request foreign in
+    behind_first roots first (next (answer_in roots old.script request (united store foreign)).reply store foreign) tree old new
+    (behind_same roots first tree tree old new (same ∙ told) refl (ran tree told))
+
+abbrev stopped : Stop → Result (Unit {0}) Stop
+stopped stop = Err stop
+
+-- it stopped
+pub does_unasked : (roots : Roots) (request : Request) (next : Reply → Action) (old new : State) (before after : Report) (stop : Stop) → Asks request old new (Err stop)
+    → DoesAcrossCrashes roots (asks roots old.script request next) {T = Unit {0}} old new before after (Err stop)
+does_unasked roots request next old new before after (Refused why) a = absurd (a.unrefused why refl)
+does_unasked roots request next old new before after Fault a = record {
+  does = record {
+    answers = λ tree told rooted. tt;
+    lasts = a.lasts;
+    cause = record { later = a.cause.later; rose = λ failed. a.cause.rose refl; steady = a.cause.steady; never = λ told is failed. a.cause.never told is refl };
+  };
+  survives = λ tree told rooted rests. let store = public_tree roots tree in record {
+    each_moment = still_opens roots store old new a.tree a.soft a.lasts.script (asks roots old.script request next store (foreign_tree roots tree)).after rests.stands a.moments;
+    end = (store, inl refl, still_stands roots store old new a.tree a.soft a.lasts.script rests.stands);
+  };
+  behind = behind_unasked roots request next old new a.tree a.ran;
+}
+does_unasked roots request next old new before after NoMemory a = record {
+  does = record {
+    answers = λ tree told rooted. tt;
+    lasts = a.lasts;
+    cause = cause_other {T = Reply} old new (Err NoMemory) (Err NoMemory) a.cause (λ failed. let impossible : stopped NoMemory ≡ stopped Fault = failed in cc);
+  };
+  survives = λ tree told rooted rests. let store = public_tree roots tree in record {
+    each_moment = still_opens roots store old new a.tree a.soft a.lasts.script (asks roots old.script request next store (foreign_tree roots tree)).after rests.stands a.moments;
+    end = (store, inl refl, still_stands roots store old new a.tree a.soft a.lasts.script rests.stands);
+  };
+  behind = behind_unasked roots request next old new a.tree a.ran;
+}

@@ -13,4 +13,5 @@ pub mod RestLaws
 pub mod SparesLaws
 pub mod ThenLaws
 pub mod TransactLaws
+pub mod WhenLaws
 pub mod WorksLaws

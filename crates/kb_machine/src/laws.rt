@@ -1,5 +1,5 @@
 // The laws, each the contract of a function that does nothing.
-ghost use Rattle.std.specs.Prelude.{◌≡◌, ◌⊎◌, ◌<◌, ◌+◌, [], ◌∷◌, ◌++◌, List, ℕ, length, drop, flat_map, get_or, false, true, Ok, Err, Result, Some, Option};
+ghost use Rattle.std.specs.Prelude.{◌≡◌, ◌⊎◌, ◌<◌, ◌+◌, [], ◌∷◌, ◌++◌, List, ℕ, length, drop, flat_map, get_or, false, true, Bool, Ok, Err, Result, Some, Option};
 ghost use Rattle.std.specs.Option.{ForSome};
 ghost use Rattle.kb_world.specs.Layout.{whole_tree};
 ghost use Rattle.kb_machine.specs.Outcome.{Action, asks, print, reads, transaction, unless, warn, ◌then◌};
@@ -11,7 +11,7 @@ ghost use Rattle.kb_world.specs.Script.{Script};
 ghost use Rattle.kb_world.specs.State.{State, HasCause, Lasts, Runs};
 ghost use Rattle.kb_world.specs.Tree.{Tree, node_at, is_dir, IsFormed};
 ghost use Rattle.kb_world.specs.View.{is_own};
-ghost use Rattle.kb_world.specs.Read.{Decides};
+ghost use Rattle.kb_world.specs.Read.{Decides, Gives};
 ghost use Rattle.kb_machine.specs.Does.{Asks};
 ghost use Rattle.kb_world.specs.declared.child.Area.TheVariants as areas;
 ghost use Rattle.kb_world.specs.declared.child.Reply.{Reply};
@@ -34,7 +34,7 @@ ghost use Rattle.kb_machine.specs.Across.{DoesAcrossCrashes, SaysSo};
 ghost use Rattle.kb_machine.specs.Aside.{IsAsideArea, WorksAside};
 ghost use Rattle.kb_machine.specs.Behind.{touched_by};
 ghost use Rattle.kb_machine.specs.Commits.{Transacted, Commits, transacted};
-ghost use Rattle.kb_machine.specs.Each.{each, gathers, Leads};
+ghost use Rattle.kb_machine.specs.Each.{each, gathers, when, Leads};
 ghost use Rattle.kb_machine.specs.Stands.{Rests};
 ghost use Rattle.kb_machine.specs.Works.{Work, works, Works};
 
@@ -51,11 +51,13 @@ pub fn actions_go_on()
         → DoesAcrossCrashes roots (first then second) old new before after result }
 {}
 
-/// A child that may change nothing is asked, and then an action goes on.
+/// A child that may change nothing is asked, and then an action goes on; where it stopped the action stops.
 pub fn a_child_is_asked()
-    ensures { (roots : Roots) (request : Request) (next : Reply → Action) (reply : Reply) (old mid new : State) (before after : Report) (result : Result (Unit {0}) Stop)
+    ensures answered { (roots : Roots) (request : Request) (next : Reply → Action) (reply : Reply) (old mid new : State) (before after : Report) (result : Result (Unit {0}) Stop)
         → ((q : Path) → is_own request.area q ≡ false) → Asks request old mid (Ok reply) → DoesAcrossCrashes roots (next reply) mid new before after result
         → DoesAcrossCrashes roots (asks roots old.script request next) old new before after result }
+    ensures stopped { (roots : Roots) (request : Request) (next : Reply → Action) (stop : Stop) (asked : Result Reply Stop) (old new : State) (before after : Report) (result : Result (Unit {0}) Stop)
+        → asked ≡ Err stop → result ≡ Err stop → Asks request old new asked → DoesAcrossCrashes roots (asks roots old.script request next) old new before after result }
 {}
 
 /// What is done aside, and then more, is done aside; nothing is; and so is what a child does whose area lies aside, however
@@ -128,6 +130,20 @@ pub fn a_cause_is_looked_for()
     ensures passed { (roots : Roots) (read due : Tree → Option Refusal) (second : Action) (old mid new : State) (before after : Report) (found result : Result (Unit {0}) Stop)
         → found ≡ Ok tt → ((tree : Tree) → read tree ≡ due (whole_tree roots tree)) → Decides read old mid found → DoesAcrossCrashes roots second mid new before after result
         → DoesAcrossCrashes roots (unless due then second) old new before after result }
+{}
+
+/// A part is done where a test holds, for which a call looks; where it doesn't hold nothing is done, and where that call
+/// stopped the action stops.
+pub fn a_part_is_done_where_its_test_holds()
+    ensures holds { (roots : Roots) (read test : Tree → Bool) (action : Action) (old mid new : State) (before after : Report) (found : Result Bool Stop) (result : Result (Unit {0}) Stop)
+        → found ≡ Ok true → ((tree : Tree) → read tree ≡ test (whole_tree roots tree)) → Gives {T = Bool} (λ tree. Ok (read tree)) old mid found
+        → DoesAcrossCrashes roots action mid new before after result → DoesAcrossCrashes roots (when test action) old new before after result }
+    ensures fails { (roots : Roots) (read test : Tree → Bool) (action : Action) (old mid : State) (report : Report) (found : Result Bool Stop) (done : Result (Unit {0}) Stop)
+        → found ≡ Ok false → done ≡ Ok tt → ((tree : Tree) → read tree ≡ test (whole_tree roots tree)) → Gives {T = Bool} (λ tree. Ok (read tree)) old mid found
+        → DoesAcrossCrashes roots (when test action) old mid report report done }
+    ensures stopped { (roots : Roots) (read test : Tree → Bool) (action : Action) (old mid : State) (report : Report) (stop : Stop) (found : Result Bool Stop) (result : Result (Unit {0}) Stop)
+        → found ≡ Err stop → result ≡ Err stop → ((tree : Tree) → read tree ≡ test (whole_tree roots tree)) → Gives {T = Bool} (λ tree. Ok (read tree)) old mid found
+        → DoesAcrossCrashes roots (when test action) old mid report report result }
 {}
 
 /// An action goes on from the whole that stands when it begins, all that isn't private.
