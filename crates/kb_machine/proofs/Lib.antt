@@ -2,6 +2,7 @@ pub mod AsideLaws
 pub mod AsideThenLaws
 pub mod AsksLaws
 pub mod BehindLaws
+pub mod ChildLaws
 pub mod CommitLaws
 pub mod DoesLaws
 pub mod EachLaws

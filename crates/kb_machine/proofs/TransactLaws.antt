@@ -30,7 +30,7 @@ use Rattle.kb_machine.specs.Commits.{cleaned, transacted}
 
 -- ---- what is kept out is private
 
-kept_private : (roots : Roots) (q : Path) → is_kept_out roots q ≡ true → is_private roots q ≡ true
+pub kept_private : (roots : Roots) (q : Path) → is_kept_out roots q ≡ true → is_private roots q ≡ true
 kept_private roots q h = by (is_under q (intent_path roots)) _ (is_under q (staging_path roots.dkms)) (is_under q (staging_path roots.src)) (is_under q (staging_path roots.modules)) (is_under q (staging_path roots.boot)) _ _ h
   where
     by : (i n d s m b p scratch : Bool) → (i || (d || (s || (m || (b || false))))) ≡ true → ((i || (n || (d || (s || (m || (b || (p || false))))))) || scratch) ≡ true
@@ -49,7 +49,7 @@ private_hidden roots q at own = by _ (is_private roots q) _ own
     by true b c h = ap (λ x. not x && not c) h
     by false b c h = refl
 
-private_unforeign : (roots : Roots) (q : Path) (at : Option Node) → is_private roots q ≡ true → is_foreign roots q at ≡ false
+pub private_unforeign : (roots : Roots) (q : Path) (at : Option Node) → is_private roots q ≡ true → is_foreign roots q at ≡ false
 private_unforeign roots q at own = by (is_public roots q at) (is_private roots q) own
   where
     by : (a b : Bool) → b ≡ true → (not a && not b) ≡ false

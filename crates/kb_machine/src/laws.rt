@@ -9,6 +9,7 @@ ghost use Rattle.kb_world.specs.Public.{IsNeverForeign, intent_path, public_tree
 ghost use Rattle.kb_world.specs.Roots.{AreApart};
 ghost use Rattle.kb_world.specs.Script.{Script};
 ghost use Rattle.kb_world.specs.State.{State, HasCause, Lasts, Runs};
+ghost use Rattle.kb_world.specs.Stop.{stop_for};
 ghost use Rattle.kb_world.specs.Tree.{Tree, node_at, is_dir, IsFormed};
 ghost use Rattle.kb_world.specs.View.{is_own};
 ghost use Rattle.kb_world.specs.Read.{Decides, Gives};
@@ -33,6 +34,7 @@ ghost use Rattle.kb_again.specs.Sparing.{AreSparing};
 ghost use Rattle.kb_machine.specs.Across.{DoesAcrossCrashes, SaysSo};
 ghost use Rattle.kb_machine.specs.Aside.{IsAsideArea, WorksAside};
 ghost use Rattle.kb_machine.specs.Behind.{touched_by};
+ghost use Rattle.kb_machine.specs.Child.{IsForeignArea, runs_child};
 ghost use Rattle.kb_machine.specs.Commits.{Transacted, Commits, transacted};
 ghost use Rattle.kb_machine.specs.Each.{each, gathers, when, Leads};
 ghost use Rattle.kb_machine.specs.Stands.{Rests};
@@ -58,6 +60,17 @@ pub fn a_child_is_asked()
         → DoesAcrossCrashes roots (asks roots old.script request next) old new before after result }
     ensures stopped { (roots : Roots) (request : Request) (next : Reply → Action) (stop : Stop) (asked : Result Reply Stop) (old new : State) (before after : Report) (result : Result (Unit {0}) Stop)
         → asked ≡ Err stop → result ≡ Err stop → Asks request old new asked → DoesAcrossCrashes roots (asks roots old.script request next) old new before after result }
+{}
+
+/// A child is run that changes what is foreign alone, and then an action goes on; a fault of it, and want of memory, leave
+/// the store standing.
+pub fn a_child_changes_what_is_foreign()
+    ensures goes_on { (roots : Roots) (request : Request) (next : Reply → Action) (reply : Reply) (old mid new : State) (before after : Report) (result : Result (Unit {0}) Stop)
+        → IsForeignArea roots request.area → ((tree : Tree) → old.tree ≡ Some tree → IsFormed tree) → Runs request old mid (Ok reply)
+        → DoesAcrossCrashes roots (next reply) mid new before after result → DoesAcrossCrashes roots (runs_child roots old.script request next) old new before after result }
+    ensures stopped { (roots : Roots) (request : Request) (next : Reply → Action) (error : WorldError) (old new : State) (before after : Report) (result : Result (Unit {0}) Stop)
+        → result ≡ Err (stop_for error) → IsForeignArea roots request.area → ((tree : Tree) → old.tree ≡ Some tree → IsFormed tree) → Runs request old new (Err error)
+        → DoesAcrossCrashes roots (runs_child roots old.script request next) old new before after result }
 {}
 
 /// What is done aside, and then more, is done aside; nothing is; and so is what a child does whose area lies aside, however
