@@ -1,6 +1,8 @@
 pub mod AsideLaws
 pub mod AsideThenLaws
 pub mod AsksLaws
+pub mod BehindLaws
+pub mod ChildLaws
 pub mod CommitLaws
 pub mod DoesLaws
 pub mod EachLaws
@@ -10,6 +12,8 @@ pub mod LookLaws
 pub mod OnceLaws
 pub mod OutcomeLaws
 pub mod RestLaws
+pub mod SparesLaws
 pub mod ThenLaws
 pub mod TransactLaws
+pub mod WhenLaws
 pub mod WorksLaws

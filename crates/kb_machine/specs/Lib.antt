@@ -1,6 +1,7 @@
 pub mod Across
 pub mod Aside
 pub mod Behind
+pub mod Child
 pub mod Commits
 pub mod Does
 pub mod Each
