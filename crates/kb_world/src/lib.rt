@@ -21,7 +21,7 @@ mod store_laws;
 mod store_path;
 mod text;
 mod tree;
-mod whose;
+mod path_tests;
 mod world;
 
 pub use child::{Area, Effect, EffectRow, Reply, Request};
@@ -42,5 +42,5 @@ pub use store_laws::{
 pub use store_path::StorePath;
 pub use text::{Bytes, Text, Texts};
 pub use tree::{Edit, Kind, Node};
-pub use whose::{is_index, is_private};
+pub use path_tests::{is_index, is_private};
 pub use world::{World, WorldError};

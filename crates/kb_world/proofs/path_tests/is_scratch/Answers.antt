@@ -1,7 +1,7 @@
 -- The first three names tell a scratch tree.
 use Rattle.std.proofs.Common.{sym, ◌∙◌}
 use Rattle.kb_world.proofs.StorePathLaws.{scratch_at, short_no_scratch}
-use Rattle.kb_world.proofs.whose.is_scratch.Goals as goal
+use Rattle.kb_world.proofs.path_tests.is_scratch.Goals as goal
 
 pub returns-in_default : goal.returns-in_default
 returns-in_default c = sym (short_no_scratch c.args.names.now c.in_default.len_below)

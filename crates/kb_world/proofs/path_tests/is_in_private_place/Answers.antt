@@ -1,5 +1,5 @@
 use Rattle.kb_world.proofs.PathLaws.{regrouped_as}
-use Rattle.kb_world.proofs.whose.is_in_private_place.Goals as goal
+use Rattle.kb_world.proofs.path_tests.is_in_private_place.Goals as goal
 
 pub returns : goal.returns
 returns c =

@@ -1,4 +1,4 @@
-// Whose a path is, told by the path alone. These tests take no memory.
+// Tests of a path alone: whether it is private, and whether it is an index file. They take no memory.
 ghost use Rattle.std.specs.Prelude.{◌≡◌, ◌&&◌, bytes_eq, codes};
 ghost use Rattle.std.specs.List.{list_any};
 ghost use Rattle.kb_world.specs.Names as rule;

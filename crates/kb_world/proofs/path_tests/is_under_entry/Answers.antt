@@ -1,6 +1,6 @@
 use Rattle.std.proofs.Common.{bytes_eq, sym, ap, ◌∙◌}
 use Rattle.kb_world.proofs.PathLaws.{under_entry, under_other}
-use Rattle.kb_world.proofs.whose.is_under_entry.Goals as goal
+use Rattle.kb_world.proofs.path_tests.is_under_entry.Goals as goal
 
 pub returns-in-Some-first : goal.returns-in-Some-first
 returns-in-Some-first c =
