@@ -1,19 +1,20 @@
 -- A child that changes what is foreign leaves a world at rest, and an action goes on behind it.
 use Rattle.std.proofs.Common.{◌≡◌, ◌⊎◌, Bool, true, false, cond, ◌&&◌, ◌||◌, not, List, [], ◌∷◌, map, Option, Some, None, refl, sym, ap, ◌∙◌, subst, inl, inr}
-use Rattle.std.proofs.lemmas.Bool.{true≢false}
+use Rattle.std.proofs.lemmas.Bool.{true≢false, or_cases}
 use Rattle.std.proofs.lemmas.List.{append-nil}
 use Rattle.std.specs.Cmp.{first_so, second_so}
-use Rattle.std.specs.List.{list_any}
-use Rattle.std.specs.Prelude.{Result, Ok, Err}
-use Rattle.kb_world.specs.Area.{lets_differ, is_soft_at, IsLeft}
+use Rattle.std.specs.List.{list_any, list_all}
+use Rattle.std.specs.Prelude.{ℕ, bytes_eq, Result, Ok, Err}
+use Rattle.kb_world.specs.Area.{is_among, lets_differ, is_soft_at, IsLeft}
 use Rattle.kb_world.specs.Crash.{LeftOf, Adds}
 use Rattle.kb_world.specs.Layout.{united, whole_tree}
 use Rattle.kb_world.specs.Path.{Path, parent, is_under}
 use Rattle.kb_world.specs.Public.{intent_path, is_private, is_foreign, public_tree, foreign_tree}
+use Rattle.kb_world.specs.Roots.{AreApart}
 use Rattle.kb_world.specs.Script.{Script, answer, answer_in, tree_after, edit_of}
 use Rattle.kb_world.specs.State.{State, HasCause, Runs, IsReplied, IsNotBegun, IsGiven}
 use Rattle.kb_world.specs.Stop.{stop_for}
-use Rattle.kb_world.specs.Tree.{Tree, node_at, is_dir, IsFormed}
+use Rattle.kb_world.specs.Tree.{Tree, node_at, is_dir, name_in, IsFormed}
 use Rattle.kb_world.specs.TreeLaws.{same_tree}
 use Rattle.kb_world.specs.View.{is_own, is_index, sees, view_of}
 use Rattle.kb_world.specs.declared.child.Area.{Area}
@@ -31,13 +32,15 @@ use Rattle.kb_world.proofs.CrashLaws.{adds_wider}
 use Rattle.kb_world.proofs.LayoutLaws.{whole_at}
 use Rattle.kb_world.proofs.PathLaws.{by_test}
 use Rattle.kb_world.proofs.PublicLaws.{node_at-foreign_tree}
-use Rattle.kb_changes.specs.Valid.{is_kept_out}
+use Rattle.kb_changes.specs.Valid.{written_roots, is_initrd, is_initrd_name, is_kept_out}
 use Rattle.kb_again.specs.Sparing.{reaches, IsSparing, AreSparing}
 use Rattle.kb_again.proofs.ChangeLaws.{whole_of, formed_of}
 use Rattle.kb_again.proofs.EditLaws.{dir_is}
 use Rattle.kb_again.proofs.Ends.{in_turn}
 use Rattle.kb_again.proofs.KeptLaws.{parent_under}
-use Rattle.kb_again.proofs.RootLaws.{private_under}
+use Rattle.kb_again.proofs.PathLaws.{same_bytes}
+use Rattle.kb_again.proofs.RootLaws.{are_roots, private_under}
+use Rattle.kb_again.proofs.SoftLaws.{initrd_open}
 use Rattle.kb_again.proofs.Steps.{writes, effect_in}
 use Rattle.kb_again.proofs.WriteLaws.{view_alike, effects_dirs, effects_same, effects_whole, edits_are}
 use Rattle.kb_machine.specs.Across.{Survives, LeavesStanding, DoesAcrossCrashes}
@@ -155,6 +158,28 @@ module _ (roots : Roots) (script : Script) (request : Request) (area_foreign : I
           ≡ cond (is_foreign roots q (node_at (tree_after roots script request tree) q)) (node_at (tree_after roots script request tree) q) None
       by q true e = hidden q (node_at (tree_after roots script request whole) q) e ∙ sym (hidden q (node_at (tree_after roots script request tree) q) e)
       by q false e = ap (λ at. cond (is_foreign roots q at) at None) (after_same q (ap not e))
+
+-- ---- initrds by their names are such an area
+
+module _ (roots : Roots) (apart : AreApart roots) where
+  named_so : (names : List (List ℕ)) → list_all (λ name. is_initrd_name (Some name)) names ≡ true → (found : Option (List ℕ)) → is_among names found ≡ true → is_initrd_name found ≡ true
+  named_so names all None among = among
+  named_so [] all (Some name) among = let impossible : false ≡ true = among in absurd (cc)
+  named_so (other ∷ names) all (Some name) among = elim (or_cases (bytes_eq name other) (list_any (bytes_eq name) names) among) [
+    | inl here ↦ ap (λ n. is_initrd_name (Some n)) (same_bytes name other here) ∙ first_so (is_initrd_name (Some other)) (list_all (λ n. is_initrd_name (Some n)) names) all
+    | inr later ↦ named_so names (second_so (is_initrd_name (Some other)) (list_all (λ n. is_initrd_name (Some n)) names) all) (Some name) later
+  ]
+
+  pub initrds_foreign : (names : List (List ℕ)) → list_all (λ name. is_initrd_name (Some name)) names ≡ true → IsForeignArea roots (areas.Names roots.boot names)
+  initrds_foreign names all = record {
+    unprivate = λ path reached. untwice (is_private roots path) (initrd_open roots (are_roots roots apart) path (named_so names all (name_in roots.boot path) reached));
+    uncounted = λ path reached. by (list_any (is_under path) (written_roots roots)) (is_private roots path) (is_initrd roots path) (named_so names all (name_in roots.boot path) reached);
+  }
+    where
+      by : (written private initrd : Bool) → initrd ≡ true → (written && (not private && not (true && initrd))) ≡ false
+      by false private initrd e = refl
+      by true true initrd e = refl
+      by true false initrd e = ap not e
 
 -- ---- it leaves a world at rest
 

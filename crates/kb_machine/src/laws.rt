@@ -1,5 +1,6 @@
 // The laws, each the contract of a function that does nothing.
 ghost use Rattle.std.specs.Prelude.{◌≡◌, ◌⊎◌, ◌<◌, ◌+◌, [], ◌∷◌, ◌++◌, List, ℕ, length, drop, flat_map, get_or, false, true, Bool, Ok, Err, Result, Some, Option};
+ghost use Rattle.std.specs.List.{list_all};
 ghost use Rattle.std.specs.Option.{ForSome};
 ghost use Rattle.kb_world.specs.Layout.{whole_tree};
 ghost use Rattle.kb_machine.specs.Outcome.{Action, asks, print, reads, transaction, unless, warn, ◌then◌};
@@ -28,6 +29,7 @@ ghost use Rattle.kb_changes.specs.Change.{done};
 ghost use Rattle.kb_changes.specs.Changes.{changes_of};
 ghost use Rattle.kb_changes.specs.Fit.{IsFit};
 ghost use Rattle.kb_changes.specs.Groups.{runs_in};
+ghost use Rattle.kb_changes.specs.Valid.{is_initrd_name};
 ghost use Rattle.kb_changes.specs.declared.change.Change.{Change};
 ghost use Rattle.kb_changes.specs.declared.change.Change.TheVariants.{Run};
 ghost use Rattle.kb_again.specs.Sparing.{AreSparing};
@@ -63,7 +65,7 @@ pub fn a_child_is_asked()
 {}
 
 /// A child is run that changes what is foreign alone, and then an action goes on; a fault of it, and want of memory, leave
-/// the store standing.
+/// the store standing. Initrds, by their names in the boot root, are an area for it.
 pub fn a_child_changes_what_is_foreign()
     ensures goes_on { (roots : Roots) (request : Request) (next : Reply → Action) (reply : Reply) (old mid new : State) (before after : Report) (result : Result (Unit {0}) Stop)
         → IsForeignArea roots request.area → ((tree : Tree) → old.tree ≡ Some tree → IsFormed tree) → Runs request old mid (Ok reply)
@@ -71,6 +73,8 @@ pub fn a_child_changes_what_is_foreign()
     ensures stopped { (roots : Roots) (request : Request) (next : Reply → Action) (error : WorldError) (old new : State) (before after : Report) (result : Result (Unit {0}) Stop)
         → result ≡ Err (stop_for error) → IsForeignArea roots request.area → ((tree : Tree) → old.tree ≡ Some tree → IsFormed tree) → Runs request old new (Err error)
         → DoesAcrossCrashes roots (runs_child roots old.script request next) old new before after result }
+    ensures initrds { (roots : Roots) → AreApart roots → (names : List (List ℕ)) → list_all (λ name. is_initrd_name (Some name)) names ≡ true
+        → IsForeignArea roots (areas.Names roots.boot names) }
 {}
 
 /// What is done aside, and then more, is done aside; nothing is; and so is what a child does whose area lies aside, however

@@ -1,7 +1,7 @@
 use Rattle.std.proofs.Common.{subst, sym}
 use Rattle.kb_machine.specs.Across.{DoesAcrossCrashes}
 use Rattle.kb_machine.specs.Child.{runs_child}
-use Rattle.kb_machine.proofs.ChildLaws.{does_child, does_no_child}
+use Rattle.kb_machine.proofs.ChildLaws.{does_child, does_no_child, initrds_foreign}
 use Rattle.kb_machine.proofs.laws.a_child_changes_what_is_foreign.Goals as goal
 
 pub returns-clause-goes_on : goal.returns-clause-goes_on
@@ -10,3 +10,6 @@ returns-clause-goes_on c roots request next reply old mid new before after resul
 pub returns-clause-stopped : goal.returns-clause-stopped
 returns-clause-stopped c roots request next error old new before after result is area formed r =
     subst (DoesAcrossCrashes roots (runs_child roots old.script request next) old new before after) (sym is) (does_no_child roots request area old new formed next before after error r)
+
+pub returns-clause-initrds : goal.returns-clause-initrds
+returns-clause-initrds c = initrds_foreign
