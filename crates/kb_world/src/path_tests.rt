@@ -1,5 +1,5 @@
 // Tests of a path alone: whether it is private, and whether it is an index file. They take no memory.
-ghost use Rattle.std.specs.Prelude.{◌≡◌, ◌&&◌, bytes_eq, codes};
+ghost use Rattle.std.specs.Prelude.{◌≡◌, ◌&&◌, ◌||◌, ◌∷◌, [], bytes_eq, codes};
 ghost use Rattle.std.specs.List.{list_any};
 ghost use Rattle.kb_world.specs.Names as rule;
 ghost use Rattle.kb_world.specs.Path.{child, is_under};
@@ -41,34 +41,69 @@ fn is_scratch(names: &[Text]) -> bool
     }
 }
 
-fn is_in_scratch(roots: &Roots, path: &Path) -> bool
-    ensures { result ≡ is_in_scratch (store_path roots.now path.now) }
+// A name that is private directly in the dkms root: that of the journal, of the next one, or of what is staged.
+fn is_private_dkms_name(name: &str) -> bool
+    ensures { result ≡ list_any (λ own. bytes_eq own name.now) public.private_dkms_names }
+{
+    matches!(name, ".intent" | ".intent.new" | ".kb-staged")
+}
+
+fn is_private_boot_name(name: &str) -> bool
+    ensures { result ≡ list_any (λ own. bytes_eq own name.now) public.private_boot_names }
+{
+    matches!(name, ".kb-staged" | ".kb-plugins")
+}
+
+fn are_in_dkms_place(names: &[Text]) -> bool
+    ensures { result ≡ list_any (λ own. is_under names.now (own ∷ [])) public.private_dkms_names }
+{
+    match names {
+        [name, ..] => is_private_dkms_name(name.as_str()),
+        _ => false,
+    }
+}
+
+fn are_in_boot_place(names: &[Text]) -> bool
+    ensures { result ≡ list_any (λ own. is_under names.now (own ∷ [])) public.private_boot_names }
+{
+    match names {
+        [name, ..] => is_private_boot_name(name.as_str()),
+        _ => false,
+    }
+}
+
+// Whether the path is the tool's own in the dkms root. The path is compared with that root once.
+fn is_private_in_dkms(roots: &Roots, path: &Path) -> bool
+    ensures { result ≡ (list_any (λ own. is_under path.now (child roots.now.dkms own)) public.private_dkms_names || is_in_scratch (store_path roots.now path.now)) }
 {
     match path.below(&roots.dkms) {
-        Some(names) => is_scratch(names),
+        Some(names) => {
+            let place = are_in_dkms_place(names);
+            let scratch = is_scratch(names);
+            place | scratch
+        }
         None => false,
     }
 }
 
-// Whether the path is that of the journal or of a staging directory, or lies below one.
-fn is_in_private_place(roots: &Roots, path: &Path) -> bool
-    ensures { result ≡ list_any (is_under path.now) (public.private_places roots.now) }
+fn is_private_in_boot(roots: &Roots, path: &Path) -> bool
+    ensures { result ≡ list_any (λ own. is_under path.now (child roots.now.boot own)) public.private_boot_names }
 {
-    let journal = is_under_entry(path, &roots.dkms, ".intent");
-    let next_journal = is_under_entry(path, &roots.dkms, ".intent.new");
-    let dkms = is_under_entry(path, &roots.dkms, ".kb-staged");
-    let src = is_under_entry(path, &roots.src, ".kb-staged");
-    let modules = is_under_entry(path, &roots.modules, ".kb-staged");
-    let boot = is_under_entry(path, &roots.boot, ".kb-staged");
-    let plugins = is_under_entry(path, &roots.boot, ".kb-plugins");
-    journal | next_journal | dkms | src | modules | boot | plugins
+    match path.below(&roots.boot) {
+        Some(names) => are_in_boot_place(names),
+        None => false,
+    }
 }
 
 /// Whether the path is the tool's own: the journal, what is staged, a scratch tree, and what is in them.
 pub fn is_private(roots: &Roots, path: &Path) -> bool
     ensures { result ≡ public.is_private roots.now path.now }
 {
-    is_in_private_place(roots, path) || is_in_scratch(roots, path)
+    let dkms = is_private_in_dkms(roots, path);
+    let src = is_under_entry(path, &roots.src, ".kb-staged");
+    let modules = is_under_entry(path, &roots.modules, ".kb-staged");
+    let boot = is_private_in_boot(roots, path);
+    dkms | src | modules | boot
 }
 
 fn is_index_name(name: &str) -> bool
