@@ -4,14 +4,14 @@ use Rattle.std.specs.Prelude.{Ok, Err}
 use Rattle.std.proofs.lemmas.Bool.{leb-true, leb-false}
 use Rattle.std.proofs.lemmas.List.{length-append}
 use Rattle.kb_conf.specs.Signs.{equals_sign}
-use Rattle.kb_conf.specs.declared.place.Place.{Place}
+use Rattle.kb_conf.specs.declared.line_position.LinePosition.{LinePosition}
 use Rattle.kb_conf.specs.Assignment.{Assignment, Given}
 use Rattle.kb_conf.specs.Front.{piece_at, byte_at, reference_at, plain_at}
 use Rattle.kb_conf.specs.Line.{Step, IsStep, AssignmentAt, is_command, Token, Blank, Semicolon, LineEnd, Comment, Set, spell_token}
 use Rattle.kb_conf.specs.Name.{Reference, spell_reference}
 use Rattle.kb_conf.specs.Only.{IsOnly}
 use Rattle.kb_conf.specs.Piece.{Piece, Mode, mode_after}
-use Rattle.kb_conf.specs.Place.{line_start, may_set}
+use Rattle.kb_conf.specs.LinePosition.{line_start, may_set}
 use Rattle.kb_conf.specs.Reading.{IsBadLine, IsFurthest, sound_len, line_number}
 use Rattle.kb_conf.specs.Value.{longest_value, Scope, scope, spell_pieces, at_start, gives, ends_item, is_short, IsShortValue}
 use Rattle.kb_conf.specs.Meaning.{Found, Said, Means, value_past, value_from, made_from, assignment_from, assignment_past, assignment_at, set_step, step_past, step_at, said_past, said_from, meaning_of}
@@ -78,23 +78,23 @@ assignment_only : (s : Scope) (text : List ℕ) → IsOnly (AssignmentAt s text)
 unfolding assignment_at
 assignment_only s text = assignment_past_only s text (reference_at text) refl
 
-set_only : (s : Scope) (place : Place) (text : List ℕ) (found : Option (Assignment × List ℕ)) → plain_at place text ≡ None → may_set place.last place.spaced ≡ true →
-    IsOnly (AssignmentAt s text) found → IsOnly (IsStep s place text) (set_step found)
-set_only s place text None plain may none = λ y h. let sets = step_sets s place text plain y h in none (sets.made, y.rest) sets.read
-set_only s place text (Some a) plain may only = the_set s place text a.0 a.1 plain may only
+set_only : (s : Scope) (position : LinePosition) (text : List ℕ) (found : Option (Assignment × List ℕ)) → plain_at position text ≡ None → may_set position.last position.spaced ≡ true →
+    IsOnly (AssignmentAt s text) found → IsOnly (IsStep s position text) (set_step found)
+set_only s position text None plain may none = λ y h. let sets = step_sets s position text plain y h in none (sets.made, y.rest) sets.read
+set_only s position text (Some a) plain may only = the_set s position text a.0 a.1 plain may only
 
-may_only : (s : Scope) (place : Place) (text : List ℕ) (b : Bool) → plain_at place text ≡ None → may_set place.last place.spaced ≡ b →
-    IsOnly (IsStep s place text) (cond b (set_step (assignment_at s text)) None)
-may_only s place text true plain e = set_only s place text (assignment_at s text) plain e (assignment_only s text)
-may_only s place text false plain e = λ y h. let stands = (step_sets s place text plain y h).stands in absurd (cc)
+may_only : (s : Scope) (position : LinePosition) (text : List ℕ) (b : Bool) → plain_at position text ≡ None → may_set position.last position.spaced ≡ b →
+    IsOnly (IsStep s position text) (cond b (set_step (assignment_at s text)) None)
+may_only s position text true plain e = set_only s position text (assignment_at s text) plain e (assignment_only s text)
+may_only s position text false plain e = λ y h. let stands = (step_sets s position text plain y h).stands in absurd (cc)
 
-step_past_only : (s : Scope) (place : Place) (text : List ℕ) (o : Option (Place × List ℕ)) → plain_at place text ≡ o → IsOnly (IsStep s place text) (step_past s place text o)
-step_past_only s place text None e = may_only s place text (may_set place.last place.spaced) e refl
-step_past_only s place text (Some found) e = the_plain s place text found.0 found.1 e
+step_past_only : (s : Scope) (position : LinePosition) (text : List ℕ) (o : Option (LinePosition × List ℕ)) → plain_at position text ≡ o → IsOnly (IsStep s position text) (step_past s position text o)
+step_past_only s position text None e = may_only s position text (may_set position.last position.spaced) e refl
+step_past_only s position text (Some found) e = the_plain s position text found.0 found.1 e
 
-step_only : (s : Scope) (place : Place) (text : List ℕ) → IsOnly (IsStep s place text) (step_at s place text)
+step_only : (s : Scope) (position : LinePosition) (text : List ℕ) → IsOnly (IsStep s position text) (step_at s position text)
 unfolding step_at
-step_only s place text = step_past_only s place text (plain_at place text) refl
+step_only s position text = step_past_only s position text (plain_at position text) refl
 
 token_has_bytes : (t : Token) → 0 < length (spell_token t)
 token_has_bytes (Blank b) = omega arith
@@ -103,40 +103,40 @@ token_has_bytes LineEnd = omega arith
 token_has_bytes (Comment text) = omega arith
 token_has_bytes (Set i) = omega (arith, length-append (spell_reference i.target) (equals_sign ∷ spell_pieces i.pieces))
 
-step_shortens : (s : Scope) (place : Place) (text : List ℕ) (step : Step) → IsStep s place text step → length step.rest < length text
-step_shortens s place text step h =
+step_shortens : (s : Scope) (position : LinePosition) (text : List ℕ) (step : Step) → IsStep s position text step → length step.rest < length text
+step_shortens s position text step h =
     let n : length text ≡ length (spell_token h.token) + length step.rest = ap length h.spelled ∙ length-append (spell_token h.token) step.rest in
     omega (arith, token_has_bytes h.token)
 
 bad_behind : (g : Given) (text rest : List ℕ) (b : ℕ) → IsFurthest g text (b ∷ rest) → IsBadLine g text (line_number text (b ∷ rest))
 bad_behind g text rest b furthest = record { rest = b ∷ rest; furthest = furthest; unread = λ e. cc; line_is = refl }
 
-said_goes_on : (g : Given) (text : List ℕ) (earlier : List Assignment) (place : Place) (b : ℕ) (rest : List ℕ) (go : List Assignment → Place → List ℕ → Said) (step : Step) (sound : Bool) →
-    nat_le (length text) (sound_len text + length step.rest) ≡ sound → SoFar g text earlier place (b ∷ rest) → IsOnly (IsStep (scope g earlier) place (b ∷ rest)) (Some step) →
-    ((all : List Assignment) (next : Place) (left : List ℕ) → SoFar g text all next left → length left < length (b ∷ rest) → Means g text (go all next left)) →
-    Means g text (cond sound (go (earlier ++ step.assigned) step.place step.rest) (Err (line_number text (b ∷ rest))))
-said_goes_on g text earlier place b rest go step true e so_far only on =
-    on (earlier ++ step.assigned) step.place step.rest (so_far_step g text earlier place (b ∷ rest) step so_far only (leb-true (length text) (sound_len text + length step.rest) e))
-    (step_shortens (scope g earlier) place (b ∷ rest) step only.0)
-said_goes_on g text earlier place b rest go step false e so_far only on =
-    bad_behind g text rest b (broken g text earlier place (b ∷ rest) step so_far only (leb-false (length text) (sound_len text + length step.rest) e))
+said_goes_on : (g : Given) (text : List ℕ) (earlier : List Assignment) (position : LinePosition) (b : ℕ) (rest : List ℕ) (go : List Assignment → LinePosition → List ℕ → Said) (step : Step) (sound : Bool) →
+    nat_le (length text) (sound_len text + length step.rest) ≡ sound → SoFar g text earlier position (b ∷ rest) → IsOnly (IsStep (scope g earlier) position (b ∷ rest)) (Some step) →
+    ((all : List Assignment) (next : LinePosition) (left : List ℕ) → SoFar g text all next left → length left < length (b ∷ rest) → Means g text (go all next left)) →
+    Means g text (cond sound (go (earlier ++ step.assigned) step.position step.rest) (Err (line_number text (b ∷ rest))))
+said_goes_on g text earlier position b rest go step true e so_far only on =
+    on (earlier ++ step.assigned) step.position step.rest (so_far_step g text earlier position (b ∷ rest) step so_far only (leb-true (length text) (sound_len text + length step.rest) e))
+    (step_shortens (scope g earlier) position (b ∷ rest) step only.0)
+said_goes_on g text earlier position b rest go step false e so_far only on =
+    bad_behind g text rest b (broken g text earlier position (b ∷ rest) step so_far only (leb-false (length text) (sound_len text + length step.rest) e))
 
-said_past_means : (g : Given) (text : List ℕ) (earlier : List Assignment) (place : Place) (b : ℕ) (rest : List ℕ) (go : List Assignment → Place → List ℕ → Said) (o : Option Step) →
-    SoFar g text earlier place (b ∷ rest) → IsOnly (IsStep (scope g earlier) place (b ∷ rest)) o →
-    ((all : List Assignment) (next : Place) (left : List ℕ) → SoFar g text all next left → length left < length (b ∷ rest) → Means g text (go all next left)) →
+said_past_means : (g : Given) (text : List ℕ) (earlier : List Assignment) (position : LinePosition) (b : ℕ) (rest : List ℕ) (go : List Assignment → LinePosition → List ℕ → Said) (o : Option Step) →
+    SoFar g text earlier position (b ∷ rest) → IsOnly (IsStep (scope g earlier) position (b ∷ rest)) o →
+    ((all : List Assignment) (next : LinePosition) (left : List ℕ) → SoFar g text all next left → length left < length (b ∷ rest) → Means g text (go all next left)) →
     Means g text (said_past text earlier (b ∷ rest) go o)
 unfolding said_past
-said_past_means g text earlier place b rest go None so_far none on = bad_behind g text rest b (stuck g text earlier place (b ∷ rest) so_far none)
-said_past_means g text earlier place b rest go (Some step) so_far only on =
-    said_goes_on g text earlier place b rest go step (nat_le (length text) (sound_len text + length step.rest)) refl so_far only on
+said_past_means g text earlier position b rest go None so_far none on = bad_behind g text rest b (stuck g text earlier position (b ∷ rest) so_far none)
+said_past_means g text earlier position b rest go (Some step) so_far only on =
+    said_goes_on g text earlier position b rest go step (nat_le (length text) (sound_len text + length step.rest)) refl so_far only on
 
-said_means : (g : Given) (text : List ℕ) (n : ℕ) (earlier : List Assignment) (place : Place) (rest : List ℕ) → SoFar g text earlier place rest → length rest ≤ n →
-    Means g text (said_from g text n earlier place rest)
+said_means : (g : Given) (text : List ℕ) (n : ℕ) (earlier : List Assignment) (position : LinePosition) (rest : List ℕ) → SoFar g text earlier position rest → length rest ≤ n →
+    Means g text (said_from g text n earlier position rest)
 unfolding said_from
-said_means g text n earlier place [] so_far le = good g text earlier place [] so_far refl
-said_means g text zero earlier place (b ∷ rest) so_far le = absurd (omega arith)
-said_means g text (suc n) earlier place (b ∷ rest) so_far le =
-    said_past_means g text earlier place b rest (said_from g text n) (step_at (scope g earlier) place (b ∷ rest)) so_far (step_only (scope g earlier) place (b ∷ rest))
+said_means g text n earlier position [] so_far le = good g text earlier position [] so_far refl
+said_means g text zero earlier position (b ∷ rest) so_far le = absurd (omega arith)
+said_means g text (suc n) earlier position (b ∷ rest) so_far le =
+    said_past_means g text earlier position b rest (said_from g text n) (step_at (scope g earlier) position (b ∷ rest)) so_far (step_only (scope g earlier) position (b ∷ rest))
     (λ all next left on fewer. said_means g text n all next left on (omega arith))
 
 -- what is computed is what the grammar says

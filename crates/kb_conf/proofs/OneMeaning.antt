@@ -4,15 +4,15 @@ use Rattle.std.specs.Prelude.{count_by}
 use Rattle.std.proofs.lemmas.Bool.{and_parts, not-true}
 use Rattle.std.proofs.lemmas.List.{length-append}
 use Rattle.std.proofs.lemmas.Option.{some_pair_parts}
-use Rattle.kb_conf.specs.declared.place.Place.{Place}
+use Rattle.kb_conf.specs.declared.line_position.LinePosition.{LinePosition}
 use Rattle.kb_conf.specs.Signs.{equals_sign, line_feed}
 use Rattle.kb_conf.specs.Assignment.{Assignment, Given}
 use Rattle.kb_conf.specs.Name.{Reference, spell_reference}
 use Rattle.kb_conf.specs.Piece.{Piece, Mode, spell, fits_here, mode_after}
-use Rattle.kb_conf.specs.Place.{line_start, after_assignment}
+use Rattle.kb_conf.specs.LinePosition.{line_start, after_assignment}
 use Rattle.kb_conf.specs.Front.{piece_at, plain_at}
 use Rattle.kb_conf.specs.Value.{Scope, ReadsValue, gives, spell_pieces, are_value, give_all, ends_item}
-use Rattle.kb_conf.specs.Line.{Token, Blank, Semicolon, LineEnd, Comment, Set, Step, IsStep, IsAssignment, spell_token, spell_tokens, is_token, may_stand, place_after, assigns, are_lines, assign_all}
+use Rattle.kb_conf.specs.Line.{Token, Blank, Semicolon, LineEnd, Comment, Set, Step, IsStep, IsAssignment, spell_token, spell_tokens, is_token, may_stand, position_after, assigns, are_lines, assign_all}
 use Rattle.kb_conf.specs.Value.{scope}
 use Rattle.kb_conf.specs.Reading.{IsGood, IsBadLine}
 use Rattle.kb_conf.proofs.PieceLaws.{piece_again}
@@ -54,14 +54,14 @@ one_assignment s text a b after behind h k =
     let same = one_value s (value_mode q.target) q.behind p.value q.value after behind moved q.short.0 in
     same_pair a b after behind (p.made ∙ ap (λ (x : Reference). made_of x p.value) pair.0 ∙ ap (made_of q.target) same.value ∙ sym q.made) same.after
 
-pub one_step : (s : Scope) (place : Place) (text : List ℕ) (y z : Step) → IsStep s place text y → IsStep s place text z → y ≡ z
-one_step s place text y z h k = by_plain (plain_at place text) refl
+pub one_step : (s : Scope) (position : LinePosition) (text : List ℕ) (y z : Step) → IsStep s position text y → IsStep s position text z → y ≡ z
+one_step s position text y z h k = by_plain (plain_at position text) refl
   where
-    by_plain : (o : Option (Place × List ℕ)) → plain_at place text ≡ o → y ≡ z
-    by_plain (Some (next, rest)) e = let only = the_plain s place text next rest e in only.1 y h ∙ sym (only.1 z k)
+    by_plain : (o : Option (LinePosition × List ℕ)) → plain_at position text ≡ o → y ≡ z
+    by_plain (Some (next, rest)) e = let only = the_plain s position text next rest e in only.1 y h ∙ sym (only.1 z k)
     by_plain None e =
-        let a = step_sets s place text e y h in
-        let b = step_sets s place text e z k in
+        let a = step_sets s position text e y h in
+        let b = step_sets s position text e z k in
         let same = one_assignment s text a.made b.made y.rest z.rest a.read b.read in
         a.step ∙ ap (λ (x : Assignment × List ℕ). step_of after_assignment (x.0 ∷ []) x.1) same ∙ sym b.step
 
@@ -79,27 +79,27 @@ something t ts e =
     let out = spelled_out t in
     omega arith
 
-first_step : (g : Given) (earlier : List Assignment) (place : Place) (text : List ℕ) (t : Token) (ts : List Token) → text ≡ spell_tokens (t ∷ ts) ++ [] → (may_stand place t && is_token (scope g earlier) t (spell_tokens ts ++ [])) ≡ true → IsStep (scope g earlier) place text (step_of (place_after place t) (assigns (scope g earlier) t) (spell_tokens ts ++ []))
-first_step g earlier place text t ts spelled first =
-    let parts = and_parts (may_stand place t) (is_token (scope g earlier) t (spell_tokens ts ++ [])) first in
-    record { token = t; spelled = spelled ∙ append_assoc (spell_token t) (spell_tokens ts) []; stands = parts.0; whole = parts.1; next_place = refl; assignments = refl }
+first_step : (g : Given) (earlier : List Assignment) (position : LinePosition) (text : List ℕ) (t : Token) (ts : List Token) → text ≡ spell_tokens (t ∷ ts) ++ [] → (may_stand position t && is_token (scope g earlier) t (spell_tokens ts ++ [])) ≡ true → IsStep (scope g earlier) position text (step_of (position_after position t) (assigns (scope g earlier) t) (spell_tokens ts ++ []))
+first_step g earlier position text t ts spelled first =
+    let parts = and_parts (may_stand position t) (is_token (scope g earlier) t (spell_tokens ts ++ [])) first in
+    record { token = t; spelled = spelled ∙ append_assoc (spell_token t) (spell_tokens ts) []; stands = parts.0; whole = parts.1; next_position = refl; assignments = refl }
 
-same_list : (g : Given) (ts us : List Token) (earlier : List Assignment) (place : Place) → spell_tokens ts ++ [] ≡ spell_tokens us ++ [] → are_lines g earlier place ts [] ≡ true → are_lines g earlier place us [] ≡ true → assign_all g earlier ts ≡ assign_all g earlier us
-same_list g [] [] earlier place same a b = refl
-same_list g [] (u ∷ us) earlier place same a b = absurd (something u us same)
-same_list g (t ∷ ts) [] earlier place same a b = absurd (something t ts (sym same))
-same_list g (t ∷ ts) (u ∷ us) earlier place same a b =
+same_list : (g : Given) (ts us : List Token) (earlier : List Assignment) (position : LinePosition) → spell_tokens ts ++ [] ≡ spell_tokens us ++ [] → are_lines g earlier position ts [] ≡ true → are_lines g earlier position us [] ≡ true → assign_all g earlier ts ≡ assign_all g earlier us
+same_list g [] [] earlier position same a b = refl
+same_list g [] (u ∷ us) earlier position same a b = absurd (something u us same)
+same_list g (t ∷ ts) [] earlier position same a b = absurd (something t ts (sym same))
+same_list g (t ∷ ts) (u ∷ us) earlier position same a b =
     let s = scope g earlier in
-    let left = and_parts (may_stand place t && is_token s t (spell_tokens ts ++ [])) (are_lines g (earlier ++ assigns s t) (place_after place t) ts []) a in
-    let right = and_parts (may_stand place u && is_token s u (spell_tokens us ++ [])) (are_lines g (earlier ++ assigns s u) (place_after place u) us []) b in
+    let left = and_parts (may_stand position t && is_token s t (spell_tokens ts ++ [])) (are_lines g (earlier ++ assigns s t) (position_after position t) ts []) a in
+    let right = and_parts (may_stand position u && is_token s u (spell_tokens us ++ [])) (are_lines g (earlier ++ assigns s u) (position_after position u) us []) b in
     let text = spell_tokens (t ∷ ts) ++ [] in
-    let one = one_step s place text _ _ (first_step g earlier place text t ts refl left.0) (first_step g earlier place text u us same right.0) in
+    let one = one_step s position text _ _ (first_step g earlier position text t ts refl left.0) (first_step g earlier position text u us same right.0) in
     let rest : spell_tokens ts ++ [] ≡ spell_tokens us ++ [] = ap (λ (x : Step). x.rest) one in
     let made : assigns s u ≡ assigns s t = sym (ap (λ (x : Step). x.assigned) one) in
-    let there : place_after place u ≡ place_after place t = sym (ap (λ (x : Step). x.place) one) in
-    let lines : are_lines g (earlier ++ assigns s t) (place_after place t) us [] ≡ true =
-    ap (λ (x : List Assignment). are_lines g (earlier ++ x) (place_after place t) us []) (sym made) ∙ ap (λ (x : Place). are_lines g (earlier ++ assigns s u) x us []) (sym there) ∙ right.1 in
-    same_list g ts us (earlier ++ assigns s t) (place_after place t) rest left.1 lines ∙ ap (λ (x : List Assignment). assign_all g (earlier ++ x) us) (sym made)
+    let there : position_after position u ≡ position_after position t = sym (ap (λ (x : Step). x.position) one) in
+    let lines : are_lines g (earlier ++ assigns s t) (position_after position t) us [] ≡ true =
+    ap (λ (x : List Assignment). are_lines g (earlier ++ x) (position_after position t) us []) (sym made) ∙ ap (λ (x : LinePosition). are_lines g (earlier ++ assigns s u) x us []) (sym there) ∙ right.1 in
+    same_list g ts us (earlier ++ assigns s t) (position_after position t) rest left.1 lines ∙ ap (λ (x : List Assignment). assign_all g (earlier ++ x) us) (sym made)
 
 pub one_list : (g : Given) (text : List ℕ) (first second : List Assignment) → IsGood g text first → IsGood g text second → first ≡ second
 one_list g text first second r q = r.made ∙ same_list g r.tokens q.tokens [] line_start (sym r.spelled ∙ q.spelled) r.lines q.lines ∙ sym q.made

@@ -13,11 +13,11 @@ use Rattle.std.proofs.lemmas.Bool.{and_parts, and_from, ltb-true, eqb-true}
 use Rattle.std.proofs.lemmas.Bool.Decides.{nat_tests}
 use Rattle.kb_conf.specs.Bytes.{starts_name, continues_name, is_active, is_blank}
 use Rattle.kb_conf.specs.Signs.{line_feed, hash_sign, double_quote, semicolon, backslash, dollar_sign, apostrophe, open_brace, close_brace, close_bracket, equals_sign}
-use Rattle.kb_conf.specs.declared.place.Place.{Place}
+use Rattle.kb_conf.specs.declared.line_position.LinePosition.{LinePosition}
 use Rattle.kb_conf.specs.Assignment.{Assignment, Given, given_value, last_value, is_of}
-use Rattle.kb_conf.specs.Line.{AssignmentItem, Token, Blank, Semicolon, LineEnd, Comment, Set, spell_item, item_mode, item_value, is_item, assigned, spell_token, spell_tokens, is_token, may_stand, place_after, assigns, are_lines, assign_all, ends_line}
+use Rattle.kb_conf.specs.Line.{AssignmentItem, Token, Blank, Semicolon, LineEnd, Comment, Set, spell_item, item_mode, item_value, is_item, assigned, spell_token, spell_tokens, is_token, may_stand, position_after, assigns, are_lines, assign_all, ends_line}
 use Rattle.kb_conf.specs.Value.{scope}
-use Rattle.kb_conf.specs.Place.{line_start}
+use Rattle.kb_conf.specs.LinePosition.{line_start}
 use Rattle.kb_conf.specs.Reading.{IsGood}
 use Rattle.kb_conf.specs.TextOf.{IsTextAssignment, IsTextGiven}
 use Rattle.kb_conf.proofs.Tools.{chosen}
@@ -287,14 +287,14 @@ scope_text g earlier t all = record { text = λ r value e. by_given r value (giv
     by_given r value None f e = last_text earlier r.name (unwrap_or r.number 0) value all e
     by_given r value (Some v) f e = subst IsUtf8 (same_Some v value e) (given_text g r.name (unwrap_or r.number 0) v t f)
 
-lines_text : (g : Given) (ts : List Token) (earlier : List Assignment) (place : Place) → IsTextGiven g → AllByRecursion IsTextAssignment earlier → are_lines g earlier place ts [] ≡ true → IsUtf8 (spell_tokens ts ++ []) → AllByRecursion IsTextAssignment (assign_all g earlier ts)
-lines_text g [] earlier place t all h u = all
-lines_text g (k ∷ ks) earlier place t all h u =
+lines_text : (g : Given) (ts : List Token) (earlier : List Assignment) (position : LinePosition) → IsTextGiven g → AllByRecursion IsTextAssignment earlier → are_lines g earlier position ts [] ≡ true → IsUtf8 (spell_tokens ts ++ []) → AllByRecursion IsTextAssignment (assign_all g earlier ts)
+lines_text g [] earlier position t all h u = all
+lines_text g (k ∷ ks) earlier position t all h u =
     let s = scope g earlier in
-    let parts = and_parts (may_stand place k && is_token s k (spell_tokens ks ++ [])) (are_lines g (earlier ++ assigns s k) (place_after place k) ks []) h in
-    let whole = (and_parts (may_stand place k) (is_token s k (spell_tokens ks ++ [])) parts.0).1 in
+    let parts = and_parts (may_stand position k && is_token s k (spell_tokens ks ++ [])) (are_lines g (earlier ++ assigns s k) (position_after position k) ks []) h in
+    let whole = (and_parts (may_stand position k) (is_token s k (spell_tokens ks ++ [])) parts.0).1 in
     let one = token_text s k (spell_tokens ks ++ []) (scope_text g earlier t all) whole (subst IsUtf8 (append_assoc (spell_token k) (spell_tokens ks) []) u) all in
-    lines_text g ks (earlier ++ assigns s k) (place_after place k) t one.0 parts.1 one.1
+    lines_text g ks (earlier ++ assigns s k) (position_after position k) t one.0 parts.1 one.1
 
 pub good_text : (g : Given) (text : List ℕ) (assignments : List Assignment) → IsTextGiven g → IsGood g text assignments → AllByRecursion IsTextAssignment assignments
 good_text g text assignments t r =

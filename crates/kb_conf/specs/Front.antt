@@ -5,8 +5,8 @@ use Rattle.std.specs.List.{prefix_len}
 use Rattle.std.specs.Char.{is_ascii_digit}
 use Rattle.kb_conf.specs.Signs.{digit_zero, double_quote, dollar_sign, apostrophe, open_parenthesis, close_parenthesis, backslash, backquote, open_brace, close_brace, open_bracket, close_bracket, line_feed, semicolon, hash_sign}
 use Rattle.kb_conf.specs.Bytes.{is_blank, starts_name, continues_name, begins_expansion, stands_for_itself}
-use Rattle.kb_conf.specs.declared.place.Place.{Place}
-use Rattle.kb_conf.specs.Place.{line_start, may_part, after_blank, after_semicolon}
+use Rattle.kb_conf.specs.declared.line_position.LinePosition.{LinePosition}
+use Rattle.kb_conf.specs.LinePosition.{line_start, may_part, after_blank, after_semicolon}
 use Rattle.kb_conf.specs.Name.{Reference}
 use Rattle.kb_conf.specs.Piece.{Piece, Bare, Escaped, Single, Quote, Plain, Braced, Command, Backquoted, Dollar, Mode, depth_after, spell}
 
@@ -112,11 +112,11 @@ pub record IsNextPiece (m : Mode) (text : List ℕ) (p : Piece) (written rest : 
   pub shorter : length rest < length text
 
 -- a blank, a line's end, a ; or a comment that may stand here
-unfoldable pub plain_at : Place → List ℕ → Option (Place × List ℕ)
-plain_at place [] = None
-plain_at place (b ∷ bs) =
-    if is_blank b then Some (after_blank place, bs)
+unfoldable pub plain_at : LinePosition → List ℕ → Option (LinePosition × List ℕ)
+plain_at position [] = None
+plain_at position (b ∷ bs) =
+    if is_blank b then Some (after_blank position, bs)
     else if b == line_feed then Some (line_start, bs)
-    else if b == semicolon && may_part place.last then Some (after_semicolon place, bs)
-    else if b == hash_sign && place.spaced then Some (place, drop (prefix_len (λ c. not (c == line_feed)) bs) bs)
+    else if b == semicolon && may_part position.last then Some (after_semicolon position, bs)
+    else if b == hash_sign && position.spaced then Some (position, drop (prefix_len (λ c. not (c == line_feed)) bs) bs)
     else None

@@ -9,7 +9,7 @@ pub mod Assignment
 pub mod Table
 pub mod Value
 pub mod Only
-pub mod Place
+pub mod LinePosition
 pub mod Line
 pub mod LineViews
 pub mod Reading

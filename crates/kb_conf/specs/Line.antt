@@ -2,13 +2,13 @@
 use Rattle.std.specs.Prelude.{◌≡◌, ℕ, Bool, true, ◌&&◌, ◌||◌, List, [], ◌∷◌, ◌++◌, unwrap_or, ◌==◌, IsTrue, codes}
 use Rattle.std.specs.Str.{bytes_eq}
 use Rattle.kb_conf.specs.Signs.{line_feed, hash_sign, semicolon, equals_sign}
-use Rattle.kb_conf.specs.declared.place.Place.{Place}
+use Rattle.kb_conf.specs.declared.line_position.LinePosition.{LinePosition}
 use Rattle.kb_conf.specs.Bytes.{is_blank}
 use Rattle.kb_conf.specs.Name.{Reference, is_reference, spell_reference}
 use Rattle.kb_conf.specs.Piece.{Piece, Mode, lacks}
 use Rattle.kb_conf.specs.Assignment.{Assignment, Given}
 use Rattle.kb_conf.specs.Value.{Scope, scope, at_start, spell_pieces, give_all, are_value, is_short}
-use Rattle.kb_conf.specs.Place.{may_set, may_part, after_blank, after_semicolon, after_assignment, line_start}
+use Rattle.kb_conf.specs.LinePosition.{may_set, may_part, after_blank, after_semicolon, after_assignment, line_start}
 
 -- NAME=VALUE or NAME[N]=VALUE
 pub record AssignmentItem : Type 0 where
@@ -63,19 +63,19 @@ is_token s LineEnd after = true
 is_token s (Comment text) after = lacks line_feed text && ends_line after
 is_token s (Set i) after = is_item s i after
 
-abbrev pub may_stand : Place → Token → Bool
-may_stand place (Blank b) = true
-may_stand place Semicolon = may_part place.last
-may_stand place LineEnd = true
-may_stand place (Comment text) = place.spaced
-may_stand place (Set i) = may_set place.last place.spaced
+abbrev pub may_stand : LinePosition → Token → Bool
+may_stand position (Blank b) = true
+may_stand position Semicolon = may_part position.last
+may_stand position LineEnd = true
+may_stand position (Comment text) = position.spaced
+may_stand position (Set i) = may_set position.last position.spaced
 
-abbrev pub place_after : Place → Token → Place
-place_after place (Blank b) = after_blank place
-place_after place Semicolon = after_semicolon place
-place_after place LineEnd = line_start
-place_after place (Comment text) = place
-place_after place (Set i) = after_assignment
+abbrev pub position_after : LinePosition → Token → LinePosition
+position_after position (Blank b) = after_blank position
+position_after position Semicolon = after_semicolon position
+position_after position LineEnd = line_start
+position_after position (Comment text) = position
+position_after position (Set i) = after_assignment
 
 abbrev pub assigns : Scope → Token → List Assignment
 assigns s (Set i) = assigned s i ∷ []
@@ -86,11 +86,11 @@ spell_tokens [] = []
 spell_tokens (t ∷ ts) = spell_token t ++ spell_tokens ts
 
 -- each token is whole and may stand where it stands. Its variables look at the assignments before it
-abbrev pub are_lines : Given → List Assignment → Place → List Token → List ℕ → Bool
-are_lines g earlier place [] rest = true
-are_lines g earlier place (t ∷ ts) rest =
-    (may_stand place t && is_token (scope g earlier) t (spell_tokens ts ++ rest))
-    && are_lines g (earlier ++ assigns (scope g earlier) t) (place_after place t) ts rest
+abbrev pub are_lines : Given → List Assignment → LinePosition → List Token → List ℕ → Bool
+are_lines g earlier position [] rest = true
+are_lines g earlier position (t ∷ ts) rest =
+    (may_stand position t && is_token (scope g earlier) t (spell_tokens ts ++ rest))
+    && are_lines g (earlier ++ assigns (scope g earlier) t) (position_after position t) ts rest
 
 abbrev pub assign_all : Given → List Assignment → List Token → List Assignment
 assign_all g earlier [] = earlier
@@ -98,16 +98,16 @@ assign_all g earlier (t ∷ ts) = assign_all g (earlier ++ assigns (scope g earl
 
 -- one token: what it assigns, where the next one stands, and what follows it
 pub record Step : Type 0 where
-  pub place : Place
+  pub position : LinePosition
   pub assigned : List Assignment
   pub rest : List ℕ
 
-pub record IsStep (s : Scope) (place : Place) (text : List ℕ) (step : Step) : Type 0 where
+pub record IsStep (s : Scope) (position : LinePosition) (text : List ℕ) (step : Step) : Type 0 where
   pub token : Token
   pub spelled : text ≡ spell_token token ++ step.rest
-  pub stands : IsTrue (may_stand place token)
+  pub stands : IsTrue (may_stand position token)
   pub whole : IsTrue (is_token s token step.rest)
-  pub next_place : step.place ≡ place_after place token
+  pub next_position : step.position ≡ position_after position token
   pub assignments : step.assigned ≡ assigns s token
 
 pub record IsAssignment (s : Scope) (text : List ℕ) (a : Assignment) (after : List ℕ) : Type 0 where

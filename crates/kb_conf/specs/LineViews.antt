@@ -5,7 +5,7 @@ use Rattle.std.specs.Borrow.{Bor}
 use Rattle.kb_conf.specs.Assignment.{Assignment}
 use Rattle.kb_conf.specs.Table.{view_assignment}
 use Rattle.kb_conf.specs.Line.{Step}
-use Rattle.kb_conf.specs.declared.place.Place.{Place}
+use Rattle.kb_conf.specs.declared.line_position.LinePosition.{LinePosition}
 use Rattle.kb_conf.specs.declared.table.Assignment as code
 use Rattle.kb_conf.specs.declared.line.Step as code_step
 
@@ -14,7 +14,7 @@ assignment_view o = option_map (λ (p : code.Assignment × Bor (List ℕ)). (vie
 
 abbrev pub view_step : code_step.Step → Step
 view_step s = record {
-  place = s.place;
+  position = s.position;
   assigned = option_to_list (option_map view_assignment s.assignment);
   rest = s.rest.now;
 }
@@ -22,5 +22,5 @@ view_step s = record {
 abbrev pub step_view : Option code_step.Step → Option Step
 step_view o = option_map view_step o
 
-abbrev pub plain_view : Option (Place × Bor (List ℕ)) → Option (Place × List ℕ)
-plain_view o = option_map (λ (p : Place × Bor (List ℕ)). (p.0, p.1.now)) o
+abbrev pub plain_view : Option (LinePosition × Bor (List ℕ)) → Option (LinePosition × List ℕ)
+plain_view o = option_map (λ (p : LinePosition × Bor (List ℕ)). (p.0, p.1.now)) o

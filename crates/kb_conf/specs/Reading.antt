@@ -5,7 +5,7 @@ use Rattle.std.specs.Str.Lossy.{utf8_valid_len}
 use Rattle.kb_conf.specs.Signs.{nul, line_feed, carriage_return}
 use Rattle.kb_conf.specs.Assignment.{Assignment, Given}
 use Rattle.kb_conf.specs.Line.{Token, spell_tokens, are_lines, assign_all}
-use Rattle.kb_conf.specs.Place.{line_start}
+use Rattle.kb_conf.specs.LinePosition.{line_start}
 
 abbrev pub starts_line_end : List ℕ → Bool
 starts_line_end [] = false

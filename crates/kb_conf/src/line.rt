@@ -8,8 +8,8 @@ ghost use Rattle.kb_conf.specs.LineViews.{assignment_view, step_view, plain_view
 
 use super::bytes::{EQUALS, HASH, LINE_FEED, SEMICOLON, is_blank};
 use super::given::Given;
+use super::line_position::{LINE_START, Last, LinePosition};
 use super::name::split_reference;
-use super::place::{LINE_START, Last, Place};
 use super::spans::{after_byte, len_before};
 use super::table::{Assignment, Table};
 use super::value::read_value;
@@ -54,7 +54,7 @@ fn read_assignment<'a>(
 /// One item of a line: where the next one stands, what it assigns, and what follows it.
 #[derive(Debug, Drop)]
 pub struct Step<'a> {
-    pub place: Place,
+    pub position: LinePosition,
     pub assignment: Option<Assignment<'a>>,
     pub rest: &'a [u8],
 }
@@ -62,19 +62,19 @@ pub struct Step<'a> {
 /// The blank, line end, `;` or comment at the front, if there is one that may stand here: where the
 /// next item stands, and what follows.
 #[tactic(auto, unfolding(crate::specs::Front::plain_at))]
-fn split_plain(place: Place, text: &[u8]) -> Option<(Place, &[u8])>
-    ensures { plain_view result ≡ plain_at place text.now }
+fn split_plain(position: LinePosition, text: &[u8]) -> Option<(LinePosition, &[u8])>
+    ensures { plain_view result ≡ plain_at position text.now }
 {
     let (first, rest) = text.split_first()?;
     if is_blank(*first) {
-        Some((place.after_blank(), rest))
+        Some((position.after_blank(), rest))
     } else if *first == LINE_FEED {
         Some((LINE_START, rest))
-    } else if *first == SEMICOLON && place.may_part() {
-        Some((place.after_semicolon(), rest))
-    } else if *first == HASH && place.spaced {
+    } else if *first == SEMICOLON && position.may_part() {
+        Some((position.after_semicolon(), rest))
+    } else if *first == HASH && position.spaced {
         let (_, behind) = rest.split_at(len_before(rest, LINE_FEED));
-        Some((place, behind))
+        Some((position, behind))
     } else {
         None
     }
@@ -85,32 +85,32 @@ pub fn read_step<'a>(
     alloc: Global,
     given: &Given,
     earlier: &Table<'a>,
-    place: Place,
+    position: LinePosition,
     text: &'a [u8],
 ) -> Result<Option<Step<'a>>, AllocError>
     ensures { IfOk result (λ found.
-        IsOnly (IsStep (scope given.now earlier.now) place text.now)
+        IsOnly (IsStep (scope given.now earlier.now) position text.now)
         (step_view found)) }
 {
-    if let Some((place, rest)) = split_plain(place, text) {
+    if let Some((position, rest)) = split_plain(position, text) {
         return Ok(Some(Step {
-            place,
+            position,
             assignment: None,
             rest,
         }));
     }
-    if !place.may_set() {
+    if !position.may_set() {
         return Ok(None);
     }
     let Some((assignment, rest)) = read_assignment(alloc, &*given, &*earlier, text)? else {
         return Ok(None);
     };
-    let place = Place {
+    let position = LinePosition {
         last: Last::Assignment,
         spaced: false,
     };
     Ok(Some(Step {
-        place,
+        position,
         assignment: Some(assignment),
         rest,
     }))

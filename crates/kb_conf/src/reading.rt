@@ -8,7 +8,7 @@ ghost use Rattle.kb_conf.specs.Signs.{line_feed};
 use super::bytes::{CARRIAGE_RETURN, LINE_FEED, NUL};
 use super::given::Given;
 use super::line::{Step, read_step};
-use super::place::LINE_START;
+use super::line_position::LINE_START;
 use super::spans::len_before;
 use super::table::Table;
 use std::alloc::{AllocError, Global};
@@ -97,14 +97,14 @@ pub fn read_text<'a>(alloc: Global, text: &'a [u8], given: &Given) -> Result<Tab
 {
     let sound = sound_len(text);
     let mut table = Table::new(alloc);
-    let mut place = LINE_START;
+    let mut position = LINE_START;
     let mut rest = text;
     'items: while !rest.is_empty() {
-        let Some(step) = read_step(alloc, &*given, &table, place, rest)? else {
+        let Some(step) = read_step(alloc, &*given, &table, position, rest)? else {
             return Err(bad_line(text, rest));
         };
         let Step {
-            place: next,
+            position: next,
             assignment,
             rest: behind,
         } = step;
@@ -112,7 +112,7 @@ pub fn read_text<'a>(alloc: Global, text: &'a [u8], given: &Given) -> Result<Tab
             return Err(bad_line(text, rest));
         }
         table = table.with_any(assignment)?;
-        place = next;
+        position = next;
         rest = behind;
     }
     Ok(table)

@@ -1,6 +1,6 @@
 -- What refuses the copy of a directory is asked of the tree, and found in the whole that stands.
 use Rattle.std.proofs.Common.{◌≡◌, true, false, cond, Option, Some, None, is_some, sym, ap, ◌∙◌}
-use Rattle.std.specs.Prelude.{Result, Ok, Err}
+use Rattle.std.specs.Prelude.{Result, Ok, Err, IfOk}
 use Rattle.std.specs.Option.{ForSome, option_map}
 use Rattle.kb_world.specs.Damage.{hurt}
 use Rattle.kb_world.specs.Read.{Decides}
@@ -23,13 +23,14 @@ use Rattle.kb_world.specs.declared.tree.Node.{Node}
 use Rattle.kb_world.specs.declared.world.WorldError.{WorldError}
 use Rattle.kb_world.proofs.CallLaws.{cause_other}
 use Rattle.kb_world.proofs.LayoutLaws.{whole_shown}
+use Rattle.kb_walk.specs.Copy.{met_below, too_much, too_much_met}
 use Rattle.kb_walk.specs.Walking.{LIMITS, walked}
 use Rattle.kb_walk.specs.declared.walking.Met.{Met}
 use Rattle.kb_walk.specs.declared.walking.Walk.{Walk}
 use Rattle.kb_walk.proofs.WholeLaws.{walked_whole}
 use Rattle.kb_intent.proofs.StopLaws.{done_cause}
 use Rattle.kb_dkms.specs.Add.{already_added, blocked}
-use Rattle.kb_dkms.specs.AddTree.{source_there, package_there, met_below, too_many, too_much, no_copy}
+use Rattle.kb_dkms.specs.AddTree.{source_there, package_there, no_copy}
 use Rattle.kb_dkms.specs.Places.{package_places, standing, place_blocked}
 use Rattle.kb_dkms.specs.declared.places.Places.{Places}
 use Rattle.kb_dkms.proofs.AddLaws.{are_public, standing_shown, blocked_shown}
@@ -81,24 +82,13 @@ module _ (roots : Roots) (apart : AreApart roots) (key : Key) (good : is_key key
 
 -- ---- what stands below the directory
 
-module _ (roots : Roots) (from : Path) (old new : State) (walk : Walk) (looked : Looks old new (right walk)) (walks : ForSome old.tree (λ tree. walk ≡ walked LIMITS tree (is_private roots) from)) where
-  -- the walk that skips what is private is one of the whole that stands
-  walks_whole : ForSome old.tree (λ tree. walk ≡ walked LIMITS (whole_tree roots tree) (λ path. false) from)
-  walks_whole tree told = walks tree told ∙ walked_whole roots LIMITS tree from
+-- the walk that skips what is private is one of the whole that stands
+module _ (roots : Roots) (from : Path) (old new : State) where
+  pub much_decided : {A : Type 0} (result : Result A Stop) → Decides (λ tree. too_much_met (walked LIMITS tree (is_private roots) from)) old new result → Decides (λ tree. too_much from (whole_tree roots tree)) old new result
+  much_decided result d = decided_as (λ tree. too_much_met (walked LIMITS tree (is_private roots) from)) (λ tree. too_much from (whole_tree roots tree)) old new result
+      (λ tree told. ap too_much_met (walked_whole roots LIMITS tree from)) d
 
-  ended_as : (over : Option Path) → walk.over ≡ over → ForSome old.tree (λ tree. too_many from (whole_tree roots tree) ≡ option_map refusal.TooMany over)
-  ended_as over is tree told = ap (λ (w : Walk). option_map refusal.TooMany w.over) (sym (walks_whole tree told)) ∙ ap (option_map refusal.TooMany) is
-
-  pub walk_met : ForSome old.tree (λ tree. walk.met ≡ met_below from (whole_tree roots tree))
-  walk_met tree told = ap (λ (w : Walk). w.met) (walks_whole tree told)
-
-  pub walk_ended : walk.over ≡ None → Decides (λ tree. too_many from (whole_tree roots tree)) {T = Sequence Met} old new (Ok walk.met)
-  walk_ended is = record { agrees = ended_as None is; unchanged = looked.unchanged; cause = done_cause old new walk walk.met looked.cause }
-
-  pub walk_over : (path : Path) → walk.over ≡ Some path → Decides (λ tree. too_many from (whole_tree roots tree)) {T = Sequence Met} old new (stops (Refused (refusal.TooMany path)))
-  walk_over path is = record {
-    agrees = ended_as (Some path) is;
-    unchanged = looked.unchanged;
-    cause = cause_other old new (Ok walk) (stops {T = Sequence Met} (Refused (refusal.TooMany path))) (done_cause old new walk walk looked.cause)
-        (λ failed. let impossible : stops {T = Sequence Met} (Refused (refusal.TooMany path)) ≡ Err Fault = failed in cc);
-  }
+  pub whole_met : (result : Result (Sequence Met) Stop) → IfOk result (λ met. ForSome old.tree (λ tree. met ≡ (walked LIMITS tree (is_private roots) from).met))
+      → IfOk result (λ met. ForSome old.tree (λ tree. met ≡ met_below from (whole_tree roots tree)))
+  whole_met (Ok met) is tree told = is tree told ∙ ap (λ (w : Walk). w.met) (walked_whole roots LIMITS tree from)
+  whole_met (Err stop) is = tt

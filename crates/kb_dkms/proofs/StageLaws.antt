@@ -209,37 +209,7 @@ module _ {A : Type 0} (path : Path) (at : Node) (before after : Txn) (old mid ne
       (sources_then {A = A} (λ tree. []) (λ tree. at ∷ []) (λ tree. at ∷ []) 0 1 1 before before after old mid new value (stopped stop) (sources_looked before old mid value looked)
       (sources_unstaged (λ tree. at ∷ []) 1 at before after mid new stop s) refl (λ tree now told same. refl))
 
--- a file holds what was read of it
-pub file_read : (at : Option Node) (exec : _) (bytes : List ℕ) → (held : List ℕ) × (at ≡ Some (node.File held exec)) → file_bytes at ≡ Some bytes → at ≡ Some (node.File bytes exec)
-file_read at exec bytes file read =
-    let same : file.0 ≡ bytes = some_bytes file.0 bytes (sym (ap file_bytes file.1) ∙ read) in
-    file.1 ∙ ap (λ b. Some (node.File b exec)) same
-  where
-    some_bytes : (x y : List ℕ) → Some x ≡ Some y → x ≡ y
-    some_bytes x y e = cc
-
--- and a link says what was read of it
-pub link_read : (at : Option Node) (text : List ℕ) → (said : List ℕ) × (at ≡ Some (node.Link said)) → link_text at ≡ Some text → at ≡ Some (node.Link text)
-link_read at text link read =
-    let same : link.0 ≡ text = some_text link.0 text (sym (ap link_text link.1) ∙ read) in
-    link.1 ∙ ap (λ t. Some (node.Link t)) same
-  where
-    some_text : (x y : List ℕ) → Some x ≡ Some y → x ≡ y
-    some_text x y e = cc
-
 -- ---- what was met
-
-pub file_met : (at : Option Node) (len : ℕ) (exec : _) → kind_of at ≡ kind.File len exec → (bytes : List ℕ) × (at ≡ Some (node.File bytes exec))
-file_met None len exec e = let impossible : kind.Absent ≡ kind.File len exec = e in absurd (cc)
-file_met (Some node.Dir) len exec e = let impossible : kind.Dir ≡ kind.File len exec = e in absurd (cc)
-file_met (Some (node.File bytes own)) len exec e = (bytes, let same : own ≡ exec = cc in ap (λ x. Some (node.File bytes x)) same)
-file_met (Some (node.Link text)) len exec e = let impossible : kind.Link ≡ kind.File len exec = e in absurd (cc)
-
-pub link_met : (at : Option Node) → kind_of at ≡ kind.Link → (text : List ℕ) × (at ≡ Some (node.Link text))
-link_met None e = let impossible : kind.Absent ≡ kind.Link = e in absurd (cc)
-link_met (Some node.Dir) e = let impossible : kind.Dir ≡ kind.Link = e in absurd (cc)
-link_met (Some (node.File bytes exec)) e = let impossible : kind.File (length bytes) exec ≡ kind.Link = e in absurd (cc)
-link_met (Some (node.Link text)) e = (text, refl)
 
 module _ (entry : Met) (before after : Txn) (old new : State) (result : Result (Unit {0}) Stop) where
   by_leaf : (leaf : _) → is_leaf_kind entry.kind ≡ leaf → StagesSources (λ tree. map (λ (e : Met). node_there tree e.path) (cond leaf (entry ∷ []) [])) (length (cond leaf (entry ∷ []) [])) before after old new result

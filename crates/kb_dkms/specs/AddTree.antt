@@ -1,6 +1,6 @@
 -- The action `dkms add` of a directory: its refusals in their order, its warnings, its transaction and its script. After
 -- dkms(8); which directories are no source, and the limits, are this project's own.
-use Rattle.std.specs.Prelude.{Bool, false, cond, List, [], ◌∷◌, nat_lt, codes, Option, Some, None, is_some, option_map, Result, Ok, Err}
+use Rattle.std.specs.Prelude.{Bool, cond, List, [], ◌∷◌, codes, Option, Some, None, is_some, Result, Ok, Err}
 use Rattle.std.specs.List.{list_any}
 use Rattle.kb_world.specs.Path.{Path, is_under}
 use Rattle.kb_world.specs.Tree.{Tree, node_at}
@@ -15,10 +15,7 @@ use Rattle.kb_world.specs.declared.job.Key.{Key}
 use Rattle.kb_world.specs.declared.job.Host.{Host}
 use Rattle.kb_world.specs.declared.refusal.Refusal.{Refusal}
 use Rattle.kb_world.specs.declared.refusal.Refusal.TheVariants as refusal
-use Rattle.kb_world.specs.declared.tree.Kind.{Kind}
-use Rattle.kb_world.specs.declared.tree.Kind.TheVariants as kind
-use Rattle.kb_walk.specs.Walking.{LIMITS, walked}
-use Rattle.kb_walk.specs.declared.walking.Met.{Met}
+pub use Rattle.kb_walk.specs.Copy.{met_below, too_many, too_large, too_much}
 use Rattle.kb_conf.specs.declared.conf.Conf.{Conf}
 use Rattle.kb_conf.specs.Load.{loaded_conf}
 use Rattle.kb_dkms.specs.Add.{already_added, unused_lines, blocked, added_line, add}
@@ -38,39 +35,11 @@ tree_conf host from whole = cond (holds_root host.roots from) (Err (refusal.NoSo
 abbrev pub source_there : Path → Tree → Option Refusal
 source_there source whole = cond (is_some (node_at whole source)) (Some (refusal.SourceThere source)) None
 
--- ---- its entries
-
--- what a walk meets below it, up to the first entry that passes a limit
-abbrev pub met_below : Path → Tree → List Met
-met_below from whole = (walked LIMITS whole (λ path. false) from).met
-
-abbrev pub too_many : Path → Tree → Option Refusal
-too_many from whole = option_map refusal.TooMany (walked LIMITS whole (λ path. false) from).over
-
--- a file of more than 256 MiB
-abbrev pub is_too_large_to_copy : Kind → Bool
-is_too_large_to_copy (kind.File len exec) = nat_lt 268435456 len
-is_too_large_to_copy kind.Absent = false
-is_too_large_to_copy kind.Dir = false
-is_too_large_to_copy kind.Link = false
-
--- the first of these files that is too large to be copied
-abbrev pub first_too_large_to_copy : List Met → Option Path
-first_too_large_to_copy [] = None
-first_too_large_to_copy (met ∷ later) = cond (is_too_large_to_copy met.kind) (Some met.path) (first_too_large_to_copy later)
-
-abbrev pub too_large : Path → Tree → Option Refusal
-too_large from whole = option_map refusal.TooLarge (first_too_large_to_copy (met_below from whole))
-
 -- ---- the action
 
 -- the package is added already, or something stands at its source
 abbrev pub package_there : Roots → Key → Tree → Option Refusal
 package_there roots key = already_added roots key or source_there (source_path roots key)
-
--- more is below the directory, or more is in a file there, than is copied
-abbrev pub too_much : Path → Tree → Option Refusal
-too_much from = too_many from or too_large from
 
 -- what refuses the copy, behind the conf
 abbrev pub no_copy : Roots → Key → Path → Tree → Option Refusal

@@ -1,6 +1,6 @@
 -- A directory that is copied to a package's source: when that can be, what is staged of it, and the paths that it is copied
 -- to. This project's own.
-use Rattle.std.specs.Prelude.{◌≡◌, ℕ, ◌+◌, true, false, List, [], ◌∷◌, ◌++◌, length, drop, map, filter, unwrap_or, Option, Some, None, Result, OnOk}
+use Rattle.std.specs.Prelude.{◌≡◌, ℕ, ◌+◌, true, false, List, [], ◌∷◌, ◌++◌, length, map, filter, unwrap_or, Option, Some, None, Result, OnOk}
 use Rattle.std.specs.Option.{ForSome}
 use Rattle.kb_world.specs.Path.{Path, is_under}
 use Rattle.kb_world.specs.Public.{intent_path, is_private, staging_path}
@@ -13,6 +13,7 @@ use Rattle.kb_world.specs.declared.roots.Roots.{Roots}
 use Rattle.kb_world.specs.declared.stop.Stop.{Stop}
 use Rattle.kb_world.specs.declared.tree.Node.{Node}
 use Rattle.kb_world.specs.declared.tree.Node.TheVariants as node
+use Rattle.kb_walk.specs.Copy.{met_below, place_copied, too_many}
 use Rattle.kb_walk.specs.Walking.{is_dir_kind, is_leaf_kind}
 use Rattle.kb_walk.specs.declared.walking.Met.{Met}
 use Rattle.kb_changes.specs.Changes.{Staged}
@@ -20,7 +21,6 @@ use Rattle.kb_changes.specs.declared.patch_paths.PatchPaths.{PatchPaths}
 use Rattle.kb_machine.specs.Aside.{IsSameBut}
 use Rattle.kb_intent.specs.Txn.{StaysAside, AreStagedFor}
 use Rattle.kb_intent.specs.declared.txn.Txn.{Txn}
-use Rattle.kb_dkms.specs.AddTree.{met_below, too_many}
 use Rattle.kb_dkms.specs.declared.places.Places.{Places}
 
 -- ---- when the transaction can be made
@@ -90,10 +90,6 @@ abbrev pub StagesMet : List Met → Txn → Txn → {T : Type 0} → State → S
 StagesMet met before after old new result = StagesSources (nodes_met met) (length (leaves_met met)) before after old new result
 
 -- ---- where it is copied to
-
--- the same names below the source
-abbrev pub place_copied : Path → Path → Path → Path
-place_copied source from path = source ++ drop (length from) path
 
 -- the places of what was met
 abbrev pub places_copied : Path → Path → List Met → List Path

@@ -1,15 +1,14 @@
 // What is read before a directory is copied to a package's source.
-ghost use Rattle.std.specs.Prelude.{◌≡◌, ◌||◌, IfOk, IsTrue, IsErrOf, None, true, false};
-ghost use Rattle.std.specs.Option.{ForSome, option_map};
-ghost use Rattle.kb_world.specs.Read.{Agrees, Decides, Gives};
+ghost use Rattle.std.specs.Prelude.{◌≡◌, ◌||◌, IfOk, IsTrue, None, true, false};
+ghost use Rattle.std.specs.Option.{ForSome};
+ghost use Rattle.kb_world.specs.Read.{Decides, Gives};
 ghost use Rattle.kb_world.specs.Damage.{hurt};
 ghost use Rattle.kb_world.specs.Layout.{whole_tree};
 ghost use Rattle.kb_world.specs.Public as public;
 ghost use Rattle.kb_world.specs.Roots.{AreApart};
 ghost use Rattle.kb_world.specs.Store.{is_key};
 ghost use Rattle.kb_world.specs.Tree.{node_at, is_dir};
-ghost use Rattle.kb_world.specs.declared.refusal.Refusal.TheVariants as refusal;
-ghost use Rattle.kb_world.specs.declared.stop.Stop.TheVariants.{Fault};
+ghost use Rattle.kb_walk.specs.Copy.{met_below, too_much};
 ghost use Rattle.kb_dkms.specs.AddTree as action;
 ghost use Rattle.kb_dkms.specs.Places.{package_places};
 ghost use Rattle.kb_dkms.specs.Scripts.{host_given};
@@ -17,12 +16,9 @@ ghost use Rattle.kb_dkms.specs.Scripts.{host_given};
 use crate::places::{require_unadded, require_unblocked};
 use crate::scripts::Source;
 use kb_conf::{Conf, Given, load_conf};
-use kb_walk::{LIMITS, Met, Walk, walk_below};
+use kb_walk::{Met, meet_to_copy};
 use kb_world::{Job, Kind, Path, Refusal, Roots, Sequence, Stop, World, is_private};
 use std::alloc::Global;
-
-// The size in bytes of the largest file that is copied.
-const LARGEST_FILE: u64 = 268_435_456;
 
 // Whether a root is at or under the directory.
 fn holds_root(roots: &Roots, from: &Path) -> bool
@@ -82,53 +78,6 @@ fn require_free<W: World>(alloc: Global, world: &mut W, source: &Path) -> Result
     }
 }
 
-// What stands below the directory. Refused where that is more than a walk may meet.
-fn walk_source<W: World>(
-    alloc: Global,
-    world: &mut W,
-    roots: &Roots,
-    from: &Path,
-) -> Result<Sequence<Met>, Stop>
-    requires own { public.is_private roots.now from.now ≡ false }
-    requires directory { ForSome (W.state world.old).tree (λ tree.
-        is_dir (node_at tree from.now) ≡ true) }
-    ensures decides { Decides (λ tree. action.too_many from.now (whole_tree roots.now tree))
-        (W.state world.old) (W.state world.new) result }
-    ensures met { IfOk result (λ met. ForSome (W.state world.old).tree (λ tree.
-        met ≡ action.met_below from.now (whole_tree roots.now tree))) }
-{
-    let Walk { met, over } = walk_below(alloc, world, roots, from, LIMITS)?;
-    match over {
-        None => Ok(met),
-        Some(path) => Err(Stop::Refused(Refusal::TooMany { path })),
-    }
-}
-
-fn is_too_large(kind: Kind) -> bool
-    ensures { result ≡ action.is_too_large_to_copy kind }
-{
-    match kind {
-        Kind::File { len, .. } => len > LARGEST_FILE,
-        Kind::Absent | Kind::Dir | Kind::Link => false,
-    }
-}
-
-// Refused at the first file that is too large to be copied.
-fn require_small(met: &[Met]) -> Result<(), Stop>
-    ensures agrees { Agrees result
-        (option_map refusal.TooLarge (action.first_too_large_to_copy met.now)) }
-    ensures faultless { IsErrOf result Fault → ⊥ }
-{
-    for entry in met {
-        if is_too_large(entry.kind) {
-            return Err(Stop::Refused(Refusal::TooLarge {
-                path: entry.path.clone()?,
-            }));
-        }
-    }
-    Ok(())
-}
-
 // Refused where the package is added already, and where something stands at its source.
 fn require_no_package<W: World>(
     alloc: Global,
@@ -158,22 +107,14 @@ fn meet_small<W: World>(
     roots: &Roots,
     from: &Path,
 ) -> Result<Sequence<Met>, Stop>
-    requires own { public.is_private roots.now from.now ≡ false }
-    requires directory { ForSome (W.state world.old).tree (λ tree.
+    requires { ForSome (W.state world.old).tree (λ tree.
         is_dir (node_at tree from.now) ≡ true) }
-    ensures decides { Decides (λ tree. action.too_much from.now (whole_tree roots.now tree))
+    ensures decides { Decides (λ tree. too_much from.now (whole_tree roots.now tree))
         (W.state world.old) (W.state world.new) result }
     ensures met { IfOk result (λ met. ForSome (W.state world.old).tree (λ tree.
-        met ≡ action.met_below from.now (whole_tree roots.now tree))) }
+        met ≡ met_below from.now (whole_tree roots.now tree))) }
 {
-    let met = match walk_source(alloc, world, roots, from) {
-        Ok(met) => met,
-        Err(stop) => return Err(stop),
-    };
-    match require_small(met.as_slice()) {
-        Ok(()) => Ok(met),
-        Err(stop) => Err(stop),
-    }
+    meet_to_copy(alloc, world, roots, from)
 }
 
 /// What stands below a directory that is to be copied to the package's source, in the order of
@@ -199,7 +140,7 @@ pub(crate) fn meet_source<W: World>(
         (whole_tree source.entry.job.now.host.roots tree))
         (W.state world.old) (W.state world.new) result }
     ensures met { IfOk result (λ met. ForSome (W.state world.old).tree (λ tree.
-        met ≡ action.met_below from.now (whole_tree source.entry.job.now.host.roots tree))) }
+        met ≡ met_below from.now (whole_tree source.entry.job.now.host.roots tree))) }
 {
     match require_no_package(alloc, world, source) {
         Ok(()) => {}

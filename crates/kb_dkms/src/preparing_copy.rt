@@ -15,7 +15,7 @@ use crate::scripts::Source;
 use crate::staging::stage_all_met;
 use kb_conf::Conf;
 use kb_intent::{PatchPaths, RootName, Txn};
-use kb_walk::Met;
+use kb_walk::{Met, place_copied};
 use kb_world::{Kind, Path, Request, Sequence, Stop, World};
 use std::alloc::{AllocError, Global};
 
@@ -25,16 +25,6 @@ pub(crate) struct Original<'a, 'b> {
     pub(crate) source: Source<'a>,
     pub(crate) from: &'b Path,
     pub(crate) conf: &'b Conf,
-}
-
-// Where a path below the directory is copied to.
-fn place_of(alloc: Global, source: &Path, from: &Path, path: &Path) -> Result<Path, AllocError>
-    ensures { IfOk result (λ place. place ≡ copying.place_copied source.now from.now path.now) }
-{
-    match path.names().get(from.names().len()..) {
-        Some(names) => source.join(alloc, names),
-        None => source.clone(),
-    }
 }
 
 // The source, and each directory that was met at its place below it.
@@ -51,7 +41,7 @@ fn dirs_of(
     dirs.push(source.clone()?)?;
     for entry in met {
         if matches!(entry.kind, Kind::Dir) {
-            dirs.push(place_of(alloc, source, from, &entry.path)?)?;
+            dirs.push(place_copied(alloc, source, from, &entry.path)?)?;
         }
     }
     Ok(dirs)
@@ -70,7 +60,7 @@ fn puts_of(
     let mut puts = Sequence::new(alloc);
     for entry in met {
         if matches!(entry.kind, Kind::File { .. } | Kind::Link) {
-            puts.push(place_of(alloc, source, from, &entry.path)?)?;
+            puts.push(place_copied(alloc, source, from, &entry.path)?)?;
         }
     }
     Ok(puts)

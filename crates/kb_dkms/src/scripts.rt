@@ -66,7 +66,9 @@ fn arguments_of(alloc: Global, script: &Text) -> Result<Texts, AllocError>
 // A script of the package, which runs in the directory of its source and sees what is there.
 fn script_request(alloc: Global, source: Source<'_>, script: &Text) -> Result<Request, AllocError>
     requires { source.places.now.source ≡ source_path source.job.now.host.roots source.key.now }
-    ensures { IfOk result (λ request. request ≡ rule.script_request source.entry.job.now.host.roots source.entry.given.now source.entry.key.now script.now) }
+    ensures { IfOk result (λ request. request
+        ≡ rule.script_request source.entry.job.now.host.roots source.entry.given.now
+        source.entry.key.now script.now) }
 {
     let dir = &source.places.source;
     let mut seen = Sequence::new(alloc);
@@ -89,7 +91,9 @@ pub(crate) fn find_script(
 ) -> Result<Option<Request>, AllocError>
     requires given { source.given.now ≡ rule.host_given source.job.now.host }
     requires places { source.places.now ≡ package_places source.job.now.host.roots source.key.now }
-    ensures { IfOk result (λ request. request ≡ script_asked source.entry.job.now.host source.entry.key.now (option_copied script.entry)) }
+    ensures { IfOk result (λ request. request
+        ≡ script_asked source.entry.job.now.host source.entry.key.now
+        (option_copied script.entry)) }
 {
     match script {
         None => Ok(None),

@@ -39,6 +39,8 @@ pub enum LineError {
     NotEmpty,
     #[error("a file or a link stands above it")]
     NoDirectory,
+    #[error("no directory that can be copied there")]
+    NoCopy,
     #[error("no such choice")]
     NotAChoice,
     #[error("a call of the world failed")]

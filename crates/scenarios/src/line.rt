@@ -38,6 +38,7 @@ pub enum Action {
     Fill { path: Path, count: u64 },
     Remove(Path),
     Wipe(Path),
+    Copy { from: Path, to: Path },
     Fail { target: Target, calls: Vec<u64> },
     Run(Texts),
     Halt(Halted),
@@ -229,6 +230,13 @@ fn read_run(alloc: Global, word: &str, rest: Option<&str>) -> Result<Option<Line
         }
         "run" => act_line(Action::Run(words(alloc, rest)?)),
         "wipe" => act_line(Action::Wipe(last_path(alloc, rest)?)),
+        "copy" => {
+            let (from, to) = split_field(rest)?;
+            act_line(Action::Copy {
+                from: field_path(alloc, from)?,
+                to: last_path(alloc, Some(to))?,
+            })
+        }
         "halt" => read_halt(alloc, rest),
         "fail" => read_fail(alloc, Target::World, rest),
         "fail-out" => read_fail(alloc, Target::Out, rest),

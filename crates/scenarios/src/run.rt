@@ -2,9 +2,10 @@
 
 use crate::error::LineError;
 use crate::line::Halted;
+use crate::store::print_stop;
 use crate::text::{Page, Place};
 use crate::world_calls::{Ended, Failures, SceneWorld};
-use kb_world::{Path, Texts, WorldError};
+use kb_world::{Path, Stop, Texts, WorldError};
 use std::alloc::{AllocError, Global};
 
 // Adds the lines of what was written, each behind the name of its stream.
@@ -74,6 +75,22 @@ pub fn wipe_path(
         Ok(()) => Ok(page.plain("wiped\n")?),
         Err(WorldError::Failed) => Ok(page.plain("failed\n")?),
         Err(WorldError::NoMemory) => Err(LineError::Memory(AllocError)),
+    }
+}
+
+/// Copies a directory in a world in which no call is to fail behind it, and says whether that was done.
+pub fn copy_directory(
+    alloc: Global,
+    world: &mut SceneWorld,
+    from: &Path,
+    to: &Path,
+    failures: Failures,
+    page: &mut Page,
+) -> Result<(), LineError> {
+    match world.copy(alloc, from, to, failures)? {
+        None => Ok(page.plain("copied\n")?),
+        Some(Stop::Fault) => Ok(page.plain("failed\n")?),
+        Some(stop) => print_stop(alloc, page, &stop),
     }
 }
 

@@ -11,7 +11,7 @@ use crate::error::{BadLine, LineError};
 use crate::facts::print_facts;
 use crate::journal::{print_journal, print_journal_bytes};
 use crate::line::{Action, Show};
-use crate::run::{halt, run, wipe_path};
+use crate::run::{copy_directory, halt, run, wipe_path};
 use crate::scene::{Scene, Step, usual_setting};
 use crate::show::{print_index, print_requests, print_tree};
 use crate::store::{print_claimant, print_store};
@@ -109,6 +109,10 @@ fn act(
         Action::Wipe(path) => {
             let failures = mem::replace(&mut progress.failures, Failures::none(alloc));
             wipe_path(alloc, world, &path, failures, page)
+        }
+        Action::Copy { from, to } => {
+            let failures = mem::replace(&mut progress.failures, Failures::none(alloc));
+            copy_directory(alloc, world, &from, &to, failures, page)
         }
         Action::Halt(halted) => {
             progress.failures = Failures::none(alloc);

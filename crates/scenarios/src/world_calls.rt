@@ -16,7 +16,7 @@ use kb_memory::{MemorySink, MemoryWorld, has_few_effects};
 use kb_store::Store;
 use kb_token::{BootFacts, boot_facts};
 use kb_top::{Setting, start};
-use kb_walk::{Met, walk_all, wipe};
+use kb_walk::{Met, copy_tree, walk_all, wipe};
 use kb_world::{
     EffectRow, Node, Path, Refusal, Request, Roots, Sequence, Stop, Text, TokenChoice, World,
     WorldError,
@@ -142,6 +142,24 @@ fn is_empty_dir(alloc: Global, world: &mut MemoryWorld, path: &Path) -> Result<b
         return Ok(false);
     }
     Ok(world.list(alloc, path)?.is_empty())
+}
+
+// Copies a directory to where nothing stands, and answers how that stopped, if it did.
+fn copy(
+    alloc: Global,
+    world: &mut MemoryWorld,
+    from: &Path,
+    to: &Path,
+) -> Result<Option<Stop>, LineError>
+    ensures { (state_of world.new).roots ≡ (state_of world.old).roots }
+{
+    if from.is_under(to) || to.is_under(from) {
+        return Err(LineError::NoCopy);
+    }
+    match (world.node(from), world.node(to), world.node(&to.parent()?)) {
+        (Some(Node::Dir), None, Some(Node::Dir)) => Ok(copy_tree(alloc, world, from, to).err()),
+        _ => Err(LineError::NoCopy),
+    }
 }
 
 // The store as it is read inside a command, once it was read without a refusal.
@@ -272,6 +290,21 @@ impl SceneWorld {
     ) -> Result<(), WorldError> {
         self.world.fail_at(failures.world);
         let end = wipe(alloc, &mut self.world, path);
+        self.world.fail_at(Vec::new(alloc));
+        end
+    }
+
+    /// Copies a directory to where nothing stands, and answers how that stopped, if it did. No call is
+    /// to fail behind it.
+    pub fn copy(
+        &mut self,
+        alloc: Global,
+        from: &Path,
+        to: &Path,
+        failures: Failures,
+    ) -> Result<Option<Stop>, LineError> {
+        self.world.fail_at(failures.world);
+        let end = copy(alloc, &mut self.world, from, to);
         self.world.fail_at(Vec::new(alloc));
         end
     }

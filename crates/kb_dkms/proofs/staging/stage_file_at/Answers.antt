@@ -2,7 +2,8 @@
 use Rattle.std.proofs.Common.{ap}
 use Rattle.kb_world.specs.Tree.{node_at}
 use Rattle.kb_world.specs.declared.tree.Node.TheVariants as node
-use Rattle.kb_dkms.proofs.StageLaws.{copied, uncopied, sources_unread, file_read}
+use Rattle.kb_walk.proofs.CopyCalls.{file_read}
+use Rattle.kb_dkms.proofs.StageLaws.{copied, uncopied, sources_unread}
 use Rattle.kb_dkms.proofs.staging.stage_file_at.Goals as goal
 
 pub returns-in-Err : goal.returns-in-Err

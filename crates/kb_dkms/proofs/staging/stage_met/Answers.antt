@@ -2,7 +2,8 @@
 use Rattle.std.proofs.Common.{ap, sym, ◌∙◌, inl, inr}
 use Rattle.kb_world.specs.Tree.{node_at}
 use Rattle.kb_walk.specs.Walking.{is_leaf_kind}
-use Rattle.kb_dkms.proofs.StageLaws.{file_met, link_met, leaf_staged, none_of_it, sources_nothing}
+use Rattle.kb_walk.proofs.CopyCalls.{file_met, link_met}
+use Rattle.kb_dkms.proofs.StageLaws.{leaf_staged, none_of_it, sources_nothing}
 use Rattle.kb_dkms.proofs.staging.stage_met.Goals as goal
 
 pub stage_file_at-requires-clause-file : goal.stage_file_at-requires-clause-file

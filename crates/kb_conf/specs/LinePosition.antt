@@ -2,11 +2,11 @@
 -- with or without blanks round it, and then perhaps a ; and perhaps a comment at the line's start or
 -- behind a blank.
 use Rattle.std.specs.Prelude.{Bool, true, false}
-use Rattle.kb_conf.specs.declared.place.Last.{Last}
-use Rattle.kb_conf.specs.declared.place.Last.TheVariants.{Nothing, Assignment, Separator, Closing}
-use Rattle.kb_conf.specs.declared.place.Place.{Place}
+use Rattle.kb_conf.specs.declared.line_position.Last.{Last}
+use Rattle.kb_conf.specs.declared.line_position.Last.TheVariants.{Nothing, Assignment, Separator, Closing}
+use Rattle.kb_conf.specs.declared.line_position.LinePosition.{LinePosition}
 
-abbrev pub line_start : Place
+abbrev pub line_start : LinePosition
 line_start = record { last = Nothing; spaced = true }
 
 abbrev pub may_set : Last → Bool → Bool
@@ -21,16 +21,16 @@ may_part Assignment = true
 may_part Separator = false
 may_part Closing = false
 
-abbrev pub after_blank : Place → Place
-after_blank place = record { last = place.last; spaced = true }
+abbrev pub after_blank : LinePosition → LinePosition
+after_blank position = record { last = position.last; spaced = true }
 
 -- a ; separates from the assignment before it; where there is none, nothing but a comment follows it
 abbrev pub parted : Last → Last
 parted Nothing = Closing
 parted _ = Separator
 
-abbrev pub after_semicolon : Place → Place
-after_semicolon place = record { last = parted place.last; spaced = false }
+abbrev pub after_semicolon : LinePosition → LinePosition
+after_semicolon position = record { last = parted position.last; spaced = false }
 
-abbrev pub after_assignment : Place
+abbrev pub after_assignment : LinePosition
 after_assignment = record { last = Assignment; spaced = false }

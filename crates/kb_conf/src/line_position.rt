@@ -1,6 +1,6 @@
 //! Where in a line the next item stands.
 ghost use Rattle.std.specs.Prelude.{◌≡◌};
-ghost use Rattle.kb_conf.specs.Place.{may_set, may_part, after_blank, after_semicolon};
+ghost use Rattle.kb_conf.specs.LinePosition.{may_set, may_part, after_blank, after_semicolon};
 
 /// The last item in the line that isn't a blank.
 #[derive(Clone, Copy, Debug, PartialEq, Eq)]
@@ -15,18 +15,18 @@ pub enum Last {
 
 /// Where in a line the next item stands.
 #[derive(Clone, Copy, Debug, PartialEq, Eq)]
-pub struct Place {
+pub struct LinePosition {
     pub last: Last,
     /// At the line's start or behind a blank.
     pub spaced: bool,
 }
 
-pub const LINE_START: Place = Place {
+pub const LINE_START: LinePosition = LinePosition {
     last: Last::Nothing,
     spaced: true,
 };
 
-impl Place {
+impl LinePosition {
     /// Whether an assignment may stand here.
     pub fn may_set(self) -> bool
         ensures { result ≡ may_set self.last self.spaced }
@@ -48,23 +48,23 @@ impl Place {
         }
     }
 
-    pub fn after_blank(self) -> Place
+    pub fn after_blank(self) -> LinePosition
         ensures { result ≡ after_blank self }
     {
-        Place {
+        LinePosition {
             last: self.last,
             spaced: true,
         }
     }
 
-    pub fn after_semicolon(self) -> Place
+    pub fn after_semicolon(self) -> LinePosition
         ensures { result ≡ after_semicolon self }
     {
         let last = match self.last {
             Last::Nothing => Last::Closing,
             _ => Last::Separator,
         };
-        Place {
+        LinePosition {
             last,
             spaced: false,
         }
