@@ -1,6 +1,9 @@
+pub mod CopyCalls
+pub mod CopyLoop
 pub mod LimitLaws
 pub mod MemberLaws
 pub mod OrderLaws
+pub mod UnderLaws
 pub mod VisitLaws
 pub mod WalkLaws
 pub mod WholeLaws

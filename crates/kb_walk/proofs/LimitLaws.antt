@@ -2,11 +2,9 @@
 use Rattle.std.proofs.Common.{◌≡◌, ◌⊎◌, inl, inr, ℕ, zero, suc, ◌+◌, ◌<◌, ◌≤◌, Bool, true, false, cond, ◌&&◌, ◌||◌, not, List, [], ◌∷◌, ◌++◌, length, map, Option, Some, None, refl, sym, ap, ◌∙◌, subst, append_assoc, append-nil, arith, length-append}
 use Rattle.std.specs.Prelude.{nat_le, nat_lt, slice_get, IfSome}
 use Rattle.std.specs.List.{find, list_all, AllByRecursion}
-use Rattle.std.specs.Ordering.{is_lt}
 use Rattle.std.specs.Cmp.{first_so, second_so}
-use Rattle.std.specs.Cmp.Derive.{both_true}
 use Rattle.std.proofs.lemmas.Bool.{leb-true, leb-false}
-use Rattle.kb_world.specs.Path.{Path, path_cmp}
+use Rattle.kb_world.specs.Path.{Path}
 use Rattle.kb_world.specs.Tree.{Tree, node_at, is_dir}
 use Rattle.kb_world.proofs.AboveLaws.{all-map, all-passing}
 use Rattle.kb_world.proofs.ListedLaws.{or_first}
@@ -14,9 +12,8 @@ use Rattle.kb_walk.specs.Walking.{paths_below, entries, met_at, passes_limit, wa
 use Rattle.kb_walk.specs.declared.walking.Limits.{Limits}
 use Rattle.kb_walk.specs.declared.walking.Met.{Met}
 use Rattle.kb_walk.specs.declared.walking.Walk.{Walk}
-use Rattle.kb_walk.proofs.OrderLaws.{untrue, not_true, rises}
+use Rattle.kb_walk.proofs.OrderLaws.{untrue, not_true}
 use Rattle.kb_walk.proofs.VisitLaws.{walk_over}
-use Rattle.kb_walk.proofs.MemberLaws.{entries_rise}
 
 -- every path was met
 pub record IsWhole (tree : Tree) (first : List Met) (paths : List Path) (walk : Walk) : Type 0 where
@@ -171,33 +168,6 @@ unlimited limits tree skips start walk is few short = by walk.over refl short
           | inl h ↦ omega (arith, h, count, few)
           | inr h ↦ omega (arith, h, shorter)
         ])
-
--- ---- the order of the entries
-
--- What stands before a path of a list that rises is less than it. What stands behind it is greater, and rises.
-pub record IsBetween (before : List Path) (far : Path) (behind : List Path) : Type 0 where
-  pub less : list_all (λ path. is_lt (path_cmp path far)) before ≡ true
-  pub greater : list_all (λ path. is_lt (path_cmp far path)) behind ≡ true
-  pub up : rises behind ≡ true
-
-pub between : (before : List Path) (far : Path) (behind : List Path) → rises (before ++ far ∷ behind) ≡ true → IsBetween before far behind
-between [] far behind up = record {
-  less = refl;
-  greater = first_so (list_all (λ other. is_lt (path_cmp far other)) behind) (rises behind) up;
-  up = second_so (list_all (λ other. is_lt (path_cmp far other)) behind) (rises behind) up;
-}
-between (path ∷ before) far behind up =
-    let all = first_so (list_all (λ other. is_lt (path_cmp path other)) (before ++ far ∷ behind)) (rises (before ++ far ∷ behind)) up in
-    let later = between before far behind (second_so (list_all (λ other. is_lt (path_cmp path other)) (before ++ far ∷ behind)) (rises (before ++ far ∷ behind)) up) in
-    record { less = both_true (here before all) later.less; greater = later.greater; up = later.up }
-  where
-    here : (paths : List Path) → list_all (λ other. is_lt (path_cmp path other)) (paths ++ far ∷ behind) ≡ true → is_lt (path_cmp path far) ≡ true
-    here [] all = first_so (is_lt (path_cmp path far)) (list_all (λ other. is_lt (path_cmp path other)) behind) all
-    here (other ∷ paths) all = here paths (second_so (is_lt (path_cmp path other)) (list_all (λ other. is_lt (path_cmp path other)) (paths ++ far ∷ behind)) all)
-
--- the path that a walk ends at stands between the entries before it and those behind it
-pub front_between : (limits : Limits) (tree : Tree) (skips : Path → Bool) (start far : Path) (front : IsFront limits tree skips start far) → IsBetween front.before far front.behind
-front_between limits tree skips start far front = between front.before far front.behind (subst (λ paths. rises paths ≡ true) front.split (entries_rise tree skips start))
 
 -- ---- what all of a list pass
 

@@ -70,7 +70,7 @@ no_children tree d none = over (keys tree) (λ q h. standing tree q ∙ h)
             absurd (untrue (sym gone ∙ stand key (in_front key ks)))
 
 -- in a rising list what stands in front is less
-front_less : (xs ys : List Path) (y q : Path) → rises (xs ++ y ∷ ys) ≡ true → is_in q xs → is_lt (path_cmp q y) ≡ true
+pub front_less : (xs ys : List Path) (y q : Path) → rises (xs ++ y ∷ ys) ≡ true → is_in q xs → is_lt (path_cmp q y) ≡ true
 front_less [] ys y q up h = absurd (untrue h)
 front_less (x ∷ xs) ys y q up h =
     front_or_behind q x xs (is_lt (path_cmp q y) ≡ true)
@@ -86,7 +86,7 @@ below_child x start name h =
     by [] e = ap (λ p. is_below (child p name) start) e ∙ ap (λ p. is_below (p ++ name ∷ []) start) (append-nil start) ∙ below_more start name []
     by (first ∷ rest) e = ap (λ p. is_below (child p name) start) e ∙ ap (λ p. is_below p start) (append_assoc start (first ∷ rest) (name ∷ [])) ∙ below_more start first (rest ++ name ∷ [])
 
-child_greater : (x : Path) (name : List ℕ) → is_lt (path_cmp x (child x name)) ≡ true
+pub child_greater : (x : Path) (name : List ℕ) → is_lt (path_cmp x (child x name)) ≡ true
 child_greater x name = ap (λ p. is_lt (path_cmp p (child x name))) (sym (append-nil x)) ∙ ap is_lt (cmp-append x [] (name ∷ []))
 
 -- an entry met, with all behind it gone, has nothing in it
@@ -143,7 +143,7 @@ module _ (tree : Tree) (start : Path) (front rest : List Path) (x : Path) (split
 -- ---- some of it is gone
 
 -- a path is the root, or that of an entry of its parent
-split_last : (q : Path) → (q ≡ []) ⊎ ((front : Path) × (name : List ℕ) × (q ≡ child front name))
+pub split_last : (q : Path) → (q ≡ []) ⊎ ((front : Path) × (name : List ℕ) × (q ≡ child front name))
 split_last [] = inl refl
 split_last (name ∷ rest) = elim (split_last rest) [
   | inl none ↦ inr ([], name, ap (λ r. name ∷ r) none)

@@ -67,18 +67,32 @@ wiped_none state paths count all = record {
     by None = refl
     by (Some t) = ap Some (none_wiped t ∙ ap (λ l. without_all l t) (sym (drop_all count paths all)))
 
+-- the entry met at an index, among the paths below the directory
+module _ (t : Tree) (start : Path) (mets : List Met) (met : Met) (i : ℕ) (below_len : i < length mets) (is : met ≡ get_or mets i met) (listed : mets ≡ map (met_at t) (paths_below t start)) where
+  paths_are : map path_of mets ≡ paths_below t start
+  paths_are = ap (map path_of) listed ∙ paths_met t (paths_below t start)
+
+  here : get_or (map path_of mets) i met.path ≡ met.path
+  here = get_or-map path_of mets i met met.path below_len ∙ ap path_of (sym is)
+
+  pub met_cut : paths_below t start ≡ take i (map path_of mets) ++ met.path ∷ drop (i + 1) (map path_of mets)
+  met_cut =
+      sym paths_are ∙ sym (take-append-drop i (map path_of mets))
+      ∙ ap (λ l. take i (map path_of mets) ++ l) (at_drop_more (λ l. l) (map path_of mets) i met.path (subst (λ n. i < n) (sym (length-map mets path_of)) below_len) ∙ ap (λ p. p ∷ drop (i + 1) (map path_of mets)) here)
+
+  pub met_seen : met ≡ met_at t met.path
+  met_seen =
+      is ∙ ap (λ l. get_or l i met) listed ∙ get_or-map (met_at t) (paths_below t start) i met.path met (subst (λ n. i < n) (ap length listed ∙ length-map (paths_below t start) (met_at t)) below_len)
+      ∙ ap (met_at t) (ap (λ l. get_or l i met.path) (sym paths_are) ∙ here)
+
 pub can_wipe_next : (old new : State) (tree : Tree) (start : Path) (mets : List Met) (met : Met) (i : ℕ) → i < length mets → met ≡ get_or mets i met
     → ForSome old.tree (λ t. mets ≡ map (met_at t) (paths_below t start)) → HasWiped old new (map path_of mets) (i + 1) → new.tree ≡ Some tree → CanWipe tree met
 can_wipe_next old new tree start mets met i below_len is all h told =
     let was = told_from old.tree (without_all (drop (i + 1) (map path_of mets))) tree (sym h.tree ∙ told) in
     let t = was.0 in
     let listed = all t was.1 in
-    let paths_are : map path_of mets ≡ paths_below t start = ap (map path_of) listed ∙ paths_met t (paths_below t start) in
-    let here : get_or (map path_of mets) i met.path ≡ met.path = get_or-map path_of mets i met met.path below_len ∙ ap path_of (sym is) in
-    let cut : paths_below t start ≡ take i (map path_of mets) ++ met.path ∷ drop (i + 1) (map path_of mets) =
-    sym paths_are ∙ sym (take-append-drop i (map path_of mets)) ∙ ap (λ l. take i (map path_of mets) ++ l) (at_drop_more (λ l. l) (map path_of mets) i met.path (subst (λ n. i < n) (sym (length-map mets path_of)) below_len) ∙ ap (λ p. p ∷ drop (i + 1) (map path_of mets)) here) in
-    let seen : met ≡ met_at t met.path = is ∙ ap (λ l. get_or l i met) listed ∙ get_or-map (met_at t) (paths_below t start) i met.path met (subst (λ n. i < n) (ap length listed ∙ length-map (paths_below t start) (met_at t)) below_len) ∙ ap (met_at t) (ap (λ l. get_or l i met.path) (sym paths_are) ∙ here) in
-    subst (λ n. CanWipe n met) was.2 (can_wipe t start (take i (map path_of mets)) (drop (i + 1) (map path_of mets)) met.path cut met seen)
+    subst (λ n. CanWipe n met) was.2
+    (can_wipe t start (take i (map path_of mets)) (drop (i + 1) (map path_of mets)) met.path (met_cut t start mets met i below_len is listed) met (met_seen t start mets met i below_len is listed))
 
 -- what one call makes of it
 one_more : (paths : List Path) (i : ℕ) (path : Path) (t : Tree) → i < length paths → path ≡ get_or paths i path → without path (without_all (drop (i + 1) paths) t) ≡ without_all (drop i paths) t

@@ -1,3 +1,4 @@
+pub mod Copy
 pub mod PrivateLaws
 pub mod Walking
 pub mod Wipe
