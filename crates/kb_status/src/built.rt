@@ -17,7 +17,7 @@ pub(crate) struct Package {
 }
 
 fn package_of(key: &Key) -> Result<Package, AllocError>
-    ensures { IfOk result (λ package. package ≡ rule.package_of key.now) }
+    ensures { IfOk result (λ made. made ≡ rule.package_of key.now) }
 {
     Ok(Package {
         module: key.module.clone()?,
@@ -38,7 +38,7 @@ pub(crate) fn built_packages(alloc: Global, store: &Store) -> Result<BTreeSet<Pa
 
 /// Whether the package is among these.
 pub(crate) fn is_built(built: &BTreeSet<Package>, key: &Key) -> Result<bool, AllocError>
-    ensures { IfOk result (λ is. (store : Store) → rule.AreBuilt store built.now → is ≡ has_build store key.now) }
+    ensures { IfOk result (λ has. (store : Store) → rule.AreBuilt store built.now → has ≡ has_build store key.now) }
 {
     Ok(built.contains(&package_of(key)?))
 }

@@ -1,7 +1,7 @@
 -- The chests that stand in a tree are those that what was met tells of.
 use Rattle.std.proofs.Math.Seq.{take-length}
 use Rattle.std.proofs.Common.{◌≡◌, ℕ, suc, ◌+◌, ◌-◌, ◌<◌, take, length-drop, add-one, drop-cons, get_or, Bool, true, false, cond, ◌&&◌, not, List, [], ◌∷◌, ◌++◌, length, drop, map, Option, Some, None, codes, refl, sym, ap, ◌∙◌, subst, append_assoc, Ordering}
-use Rattle.std.specs.Prelude.{bytes_eq, filter, filter_map, option_and_then, Result, Ok, Err, IfOk}
+use Rattle.std.specs.Prelude.{filter, filter_map, option_and_then, Result, Ok, Err, IfOk}
 use Rattle.std.specs.Option.{option_map}
 use Rattle.std.specs.List.{list_all, cons_option}
 use Rattle.std.specs.FinMap.{keys}
@@ -22,13 +22,13 @@ use Rattle.kb_world.specs.Steps as steps
 use Rattle.kb_world.specs.declared.roots.Roots.{Roots}
 use Rattle.kb_world.specs.declared.job.Spot.{Spot}
 use Rattle.kb_world.specs.declared.store_path.StorePath.{StorePath}
-use Rattle.kb_world.specs.declared.store_path.StorePath.TheVariants.{SourceLink, InScratch, Targets, InBox, KernelLink, InChest}
+use Rattle.kb_world.specs.declared.store_path.StorePath.TheVariants.{InChest}
 use Rattle.kb_world.specs.declared.tree.Node.{Node}
 use Rattle.kb_world.specs.declared.tree.Node.TheVariants as node
 use Rattle.kb_world.proofs.PathLaws.{under-self, by_test}
 use Rattle.kb_world.proofs.StorePathLaws.{place_back}
 use Rattle.kb_world.proofs.DamageLaws.{under-split}
-use Rattle.kb_walk.specs.Walking.{paths_below, entries, met_at, is_dir_kind}
+use Rattle.kb_walk.specs.Walking.{paths_below, entries, met_at}
 use Rattle.kb_store.specs.Contents.{at_place, chest_of, chest_by, chest_files, kept_paths}
 use Rattle.kb_store.specs.Notes.{list_of}
 use Rattle.kb_store.specs.Chests.{is_file_kind, files_in, chest_met, chests_met}

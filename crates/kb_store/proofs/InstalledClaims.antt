@@ -2,7 +2,6 @@
 use Rattle.std.proofs.Common.{◌≡◌, ◌⊎◌, inl, inr, ℕ, Bool, true, false, cond, ◌&&◌, ◌||◌, not, List, [], ◌∷◌, ◌++◌, map, Option, Some, None, is_some, refl, sym, ap, ◌∙◌, subst}
 use Rattle.std.specs.Prelude.{bytes_eq, filter, filter_map, flat_map, option_and_then}
 use Rattle.std.specs.List.{find, list_any, cons_option}
-use Rattle.std.specs.Option.{option_map}
 use Rattle.std.specs.FinMap.{keys}
 use Rattle.std.specs.Ordering.{is_lt}
 use Rattle.std.specs.Cmp.{first_so, second_so}
@@ -22,7 +21,7 @@ use Rattle.kb_world.proofs.PathLaws.{by_test}
 use Rattle.kb_world.proofs.SoundLaws.{told-version}
 use Rattle.kb_world.proofs.SpotLaws.{not_true}
 use Rattle.kb_world.proofs.StorePathLaws.{mapped_from}
-use Rattle.kb_store.specs.Accessors.{is_build, is_other, is_installed_build, installed_in, claims_at, claims_of, claims_in, claim_cmp, least_claim, claimant_in, builds_in}
+use Rattle.kb_store.specs.Accessors.{is_build, is_other, is_installed_build, installed_in, claims_at, claims_of, claims_in, claim_cmp, claimant_in, builds_in}
 use Rattle.kb_store.specs.Claims.{IsClaim, IsLeastClaim}
 use Rattle.kb_store.specs.Contents.{at_place, build_of, build_by, store_of}
 use Rattle.kb_store.specs.declared.store.Build.{Build}

@@ -15,7 +15,7 @@ use Rattle.kb_world.specs.declared.job.Spot.{Spot}
 use Rattle.kb_world.specs.declared.store_path.StorePath.{StorePath}
 use Rattle.kb_world.specs.declared.store_path.StorePath.TheVariants.{SourceLink, InScratch, Targets, InBox, KernelLink, InChest}
 use Rattle.kb_store.specs.Contents.{build_by, build_of, installation_by, installation_of}
-use Rattle.kb_store.specs.Notes.{linked, list_of, first_of_two, noted, harmed, source_noted, version_noted, link_noted, places_noted, box_noted, place_noted}
+use Rattle.kb_store.specs.Notes.{linked, list_of, first_of_two, noted, harmed, source_noted, version_noted, places_noted, place_noted}
 use Rattle.kb_store.specs.declared.store.Build.{Build}
 use Rattle.kb_store.specs.declared.store.Installation.{Installation}
 use Rattle.kb_store.specs.declared.notes.Notes.{Notes}

@@ -1,21 +1,15 @@
 -- What the links of spots say, and the names of a build's places.
-use Rattle.std.proofs.Common.{◌≡◌, ℕ, ◌-◌, Bool, true, false, cond, ◌&&◌, not, List, [], ◌∷◌, ◌++◌, length, take, nat_eq, nat_le, codes, Option, Some, None, refl, sym, ap, ◌∙◌, subst, arith, append_assoc, length-append}
+use Rattle.std.proofs.Common.{◌≡◌, ℕ, ◌-◌, Bool, true, false, cond, ◌&&◌, List, [], ◌∷◌, ◌++◌, length, take, codes, Option, Some, None, refl, sym, ap, ◌∙◌, arith, append_assoc, length-append}
 use Rattle.std.specs.Prelude.{bytes_eq, IsTrue, IfSome}
 use Rattle.std.specs.List.{list_all}
 use Rattle.std.specs.Cmp.{first_so, second_so}
-use Rattle.std.specs.Cmp.Derive.{both_true}
 use Rattle.std.specs.Cmp.Lexicographic.{bytes_decides}
-use Rattle.std.proofs.lemmas.Bool.{eqb-true, leb-true, le-leb}
 use Rattle.std.proofs.Math.Seq.{take-append_seam}
-use Rattle.kb_world.specs.Names.{is_name, is_word, is_version, is_kernel, is_arch, is_one_of}
-use Rattle.kb_world.specs.Path.{Path, child}
-use Rattle.kb_world.specs.Store.{is_key, version_path}
-use Rattle.kb_world.specs.Boxes.{in_box, spot_tail, kernel_link_text, version_of}
+use Rattle.kb_world.specs.Names.{is_name, is_word, is_version}
+use Rattle.kb_world.specs.Path.{Path}
+use Rattle.kb_world.specs.Boxes.{spot_tail, kernel_link_text, version_of}
 use Rattle.kb_world.specs.Targets.{targets_of, is_area, is_place, leads_to_module, last_name}
-use Rattle.kb_world.specs.declared.roots.Roots.{Roots}
-use Rattle.kb_world.specs.declared.job.Key.{Key}
 use Rattle.kb_world.specs.declared.job.Spot.{Spot}
-use Rattle.kb_world.proofs.NameLaws.{word-is_name, version-is_word, joined-is_name, is_name_byte}
 use Rattle.kb_world.proofs.TargetsLaws.{read}
 use Rattle.kb_store.proofs.PlaceLaws.{file_named}
 

@@ -1,6 +1,6 @@
 -- Only the paths below the dkms root that aren't private tell anything of a store, and what is told is alike where it is
 -- alike at paths that keep the rules.
-use Rattle.std.proofs.Common.{◌≡◌, ℕ, Bool, true, false, cond, ◌&&◌, not, List, [], ◌∷◌, ◌++◌, Option, Some, None, codes, refl, sym, ap, ◌∙◌}
+use Rattle.std.proofs.Common.{◌≡◌, ℕ, Bool, true, false, cond, not, List, [], ◌∷◌, ◌++◌, Option, Some, None, refl, sym, ap, ◌∙◌}
 use Rattle.std.specs.Prelude.{filter, filter_map, flat_map, option_and_then}
 use Rattle.std.specs.List.{cons_option}
 use Rattle.std.specs.Option.{option_map}
@@ -9,7 +9,7 @@ use Rattle.std.specs.Cmp.{first_so, second_so}
 use Rattle.kb_world.specs.Names.{is_word}
 use Rattle.kb_world.specs.Path.{Path}
 use Rattle.kb_world.specs.Roots.{AreApart, is_below}
-use Rattle.kb_world.specs.StorePath.{is_key, is_spot, kernel_link_name, is_ruled, store_path, path_of, is_in_scratch}
+use Rattle.kb_world.specs.StorePath.{is_key, is_spot, is_ruled, store_path, path_of, is_in_scratch}
 use Rattle.kb_world.specs.Tree.{Tree}
 use Rattle.kb_world.specs.Public.{is_private, is_loose}
 use Rattle.kb_world.specs.Damage.{harm_of, harm_at}
@@ -23,7 +23,7 @@ use Rattle.kb_world.proofs.SpotLaws.{not_true}
 use Rattle.kb_world.proofs.StorePathLaws.{place_back}
 use Rattle.kb_store.specs.Contents.{at_place, build_of, build_by, installation_of, installation_by, chest_of, chest_by}
 use Rattle.kb_store.specs.Read.{store_entries}
-use Rattle.kb_walk.specs.Walking.{paths_below, entries}
+use Rattle.kb_walk.specs.Walking.{paths_below}
 use Rattle.kb_walk.proofs.OrderLaws.{untrue}
 use Rattle.kb_walk.proofs.WalkLaws.{below_more}
 

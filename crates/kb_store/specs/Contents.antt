@@ -1,5 +1,5 @@
 -- What a store holds, as lists in the order of paths. After the tool dkms, and this project's own.
-use Rattle.std.specs.Prelude.{ℕ, Bool, true, ◌&&◌, cond, List, [], ◌∷◌, map, Option, Some, None, filter_map, option_and_then}
+use Rattle.std.specs.Prelude.{ℕ, cond, List, [], map, Option, Some, None, filter_map, option_and_then}
 use Rattle.std.specs.Option.{option_map}
 use Rattle.std.specs.FinMap.{keys}
 use Rattle.kb_world.specs.Path.{Path}

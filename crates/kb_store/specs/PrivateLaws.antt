@@ -1,5 +1,5 @@
 -- What is below a path that a walk of a version skips is skipped.
-use Rattle.std.proofs.Common.{◌≡◌, Bool, true, ◌++◌, length, drop, nat_lt, ap, ◌∙◌, append_assoc, arith, length-append}
+use Rattle.std.proofs.Common.{◌≡◌, true, ◌++◌, length, drop, nat_lt, ap, ◌∙◌, append_assoc, arith, length-append}
 use Rattle.std.specs.Cmp.{first_so, second_so}
 use Rattle.std.specs.Cmp.Derive.{both_true}
 use Rattle.std.proofs.lemmas.Bool.{leb-true, le-leb}

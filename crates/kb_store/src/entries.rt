@@ -53,11 +53,7 @@ pub fn link_at<W: World>(
 }
 
 // What the link of an entry says that was met; none where it is no link.
-fn link_met<W: World>(
-    alloc: Global,
-    world: &mut W,
-    entry: &Met,
-) -> Result<Option<Text>, WorldError>
+fn link_met<W: World>(alloc: Global, world: &mut W, entry: &Met) -> Result<Option<Text>, WorldError>
     requires { ForSome (W.state world.old).tree (λ tree. IsKindOf tree entry.now) }
     ensures told { IfOk result (λ text. ForSome (W.state world.old).tree (λ tree. text ≡ link_text (node_at tree entry.now.path))) }
     ensures same { Looks (W.state world.old) (W.state world.new) result }
