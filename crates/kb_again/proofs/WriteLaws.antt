@@ -111,7 +111,7 @@ effect_dirs a e t q = elim (cases_Bool (can_leave a e t)) [
   ]
 ]
 
-effects_dirs : (a : Area) (es : List Written) (t : Tree) (q : Path) → is_dir (node_at (in_turn (effect_in a) es t) q) ≡ is_dir (node_at t q)
+pub effects_dirs : (a : Area) (es : List Written) (t : Tree) (q : Path) → is_dir (node_at (in_turn (effect_in a) es t) q) ≡ is_dir (node_at t q)
 effects_dirs a [] t q = refl
 effects_dirs a (e ∷ es) t q = effects_dirs a es (effect_in a e t) q ∙ effect_dirs a e t q
 
@@ -233,7 +233,7 @@ effect_whole a e t whole q stands = elim (cases_Bool (can_leave a e t)) [
       ]
 ]
 
-effects_whole : (a : Area) (es : List Written) (t : Tree) → IsWhole t → IsWhole (in_turn (effect_in a) es t)
+pub effects_whole : (a : Area) (es : List Written) (t : Tree) → IsWhole t → IsWhole (in_turn (effect_in a) es t)
 effects_whole a [] t whole = whole
 effects_whole a (e ∷ es) t whole = effects_whole a es (effect_in a e t) (effect_whole a e t whole)
 
@@ -290,7 +290,7 @@ edit_then a None more t h = refl
 edit_then a (Some edit) more t h =
     ap (λ b. in_turn (effect_in a) more (cond b (edited edit.path edit.at t) t)) (can_same a t edit.path (not (is_dir edit.at)) h)
 
-edits_are : (a : Area) (view : Tree) (es : List Effect) (t : Tree)
+pub edits_are : (a : Area) (view : Tree) (es : List Effect) (t : Tree)
     → after_edits a t (map (edit_of view) es) ≡ in_turn (effect_in a) (all_written view es) t
 edits_are a view [] t = refl
 edits_are a view (e ∷ es) t =

@@ -2,12 +2,12 @@ pub mod GroupLaws
 pub mod NumberLaws
 pub mod PatchDone
 pub mod PathsLaws
-mod PatchForeign
+pub mod PatchForeign
 pub mod PatchGroups
 pub mod PatchMet
 mod PatchOwn
 pub mod PatchParents
-mod PatchPlaces
+pub mod PatchPlaces
 mod PatchPlain
 pub mod PatchPublic
 mod PatchPuts

@@ -13,3 +13,4 @@ mod WantLaws
 pub mod CopyLaws
 pub mod DecideLaws
 pub mod TreeConf
+pub mod RepeatLaws

@@ -25,6 +25,7 @@ use Rattle.kb_changes.specs.declared.change.RootName.TheVariants as root_name
 use Rattle.kb_walk.proofs.WipeCalls.{cause_handed, done_not_failed}
 use Rattle.kb_again.specs.Sparing.{areas_of}
 use Rattle.kb_again.specs.Within.{IsWithin}
+use Rattle.kb_machine.proofs.BehindLaws.{front_none}
 use Rattle.kb_world.specs.Steps.{tidied}
 use Rattle.std.specs.Fmt.{decimal}
 use Rattle.kb_walk.proofs.WalkLaws.{below_more}
@@ -63,6 +64,7 @@ module _ (roots : Roots) (change : Change) (step : Tree → Tree) (old new : Sta
       ran = s.ran_none.ran ∙ sym (append-nil old.ran) ∙ ap (λ r. old.ran ++ r) (sym (plain.requests tree));
       said = sym (ap (map (λ request. (answer_in roots old.script request tree).reply)) (plain.requests tree));
     };
+    ran = λ tree told. front_none (request_at change tree) old new s.ran_none.ran;
     within = plain_within (Ok u) s;
     soft = inl s.soft;
     moments = plain_moments (Ok u) s;
@@ -73,6 +75,7 @@ module _ (roots : Roots) (change : Change) (step : Tree → Tree) (old new : Sta
   pub stops_plain : (error : WorldError) → StepsTo step {T = Unit {0}} old new (Err error) → DoesChange roots change old new (Err error)
   stops_plain error s = record {
     done = λ tree told. tt;
+    ran = λ tree told. front_none (request_at change tree) old new s.ran_none.ran;
     within = plain_within (Err error) s;
     soft = inl s.soft;
     moments = plain_moments (Err error) s;

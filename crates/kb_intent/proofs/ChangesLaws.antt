@@ -26,6 +26,8 @@ use Rattle.kb_changes.specs.declared.change.Change.TheVariants as changes
 use Rattle.kb_again.specs.Sparing.{areas_of}
 use Rattle.kb_again.specs.Within.{IsWithin, IsBetween}
 use Rattle.kb_machine.specs.Aside.{IsOneArea}
+use Rattle.kb_machine.specs.Behind.{RanFront}
+use Rattle.kb_machine.proofs.BehindLaws.{front_all, front_first, front_then}
 use Rattle.kb_machine.proofs.AsideThenLaws.{member_left, member_right, all_members, all_append, all_wider, left_by_members}
 use Rattle.kb_walk.proofs.WipeCalls.{done_not_failed}
 use Rattle.kb_intent.specs.Doing.{DoesChange, LeftWithin, said_by, asked_by, AreChanged, IsCutOffNow, DoesChanges}
@@ -36,12 +38,18 @@ use Rattle.kb_intent.specs.declared.changing.Ran.{Ran}
 done_more : (roots : Roots) (script : Script) (front : List Change) (change : Change) (tree : Tree) → done roots script (front ++ change ∷ []) tree ≡ do_change roots script change (done roots script front tree)
 done_more roots script front change tree = fold-append (λ now c. do_change roots script c now) tree front (change ∷ [])
 
+-- the requests of some changes, and of those behind them
+requests_both : (roots : Roots) (script : Script) (front back : List Change) (tree : Tree)
+    → requests_of roots script (front ++ back) tree ≡ requests_of roots script front tree ++ requests_of roots script back (done roots script front tree)
+requests_both roots script [] back tree = refl
+requests_both roots script (c ∷ front) back tree =
+    ap (λ r. request_at c tree ++ r) (requests_both roots script front back (do_change roots script c tree))
+    ∙ sym (append_assoc (request_at c tree) (requests_of roots script front (do_change roots script c tree)) (requests_of roots script back (done roots script front (do_change roots script c tree))))
+
 requests_more : (roots : Roots) (script : Script) (front : List Change) (change : Change) (tree : Tree)
     → requests_of roots script (front ++ change ∷ []) tree ≡ requests_of roots script front tree ++ request_at change (done roots script front tree)
-requests_more roots script [] change tree = append-nil (request_at change tree)
-requests_more roots script (c ∷ front) change tree =
-    ap (λ r. request_at c tree ++ r) (requests_more roots script front change (do_change roots script c tree))
-    ∙ sym (append_assoc (request_at c tree) (requests_of roots script front (do_change roots script c tree)) (request_at change (done roots script front (do_change roots script c tree))))
+requests_more roots script front change tree =
+    requests_both roots script front (change ∷ []) tree ∙ ap (λ r. requests_of roots script front tree ++ r) (append-nil (request_at change (done roots script front tree)))
 
 abbrev answers_of : Roots → Script → Change → Tree → List Reply
 answers_of roots script change tree = map (λ request. (answer_in roots script request tree).reply) (request_at change tree)
@@ -124,6 +132,23 @@ module _ (front back : List Change) (change : Change) (soft now : List Area) (al
   soft_more new (inl same) = subst (AllByRecursion (λ area. IsOneArea area grown)) (sym same) now_in_grown
   soft_more new (inr given) = subst (AllByRecursion (λ area. IsOneArea area grown)) (sym given) more_in_grown
 
+-- which children ran: those of some changes, and then a front of those behind them
+module _ (roots : Roots) (script : Script) (front back changes : List Change) (split : front ++ back ≡ changes) (tree : Tree) (old new : State) where
+  abbrev so_far : List Request
+  so_far = requests_of roots script front tree
+
+  abbrev to_come : List Request
+  to_come = requests_of roots script back (done roots script front tree)
+
+  all_requests : so_far ++ to_come ≡ requests_of roots script changes tree
+  all_requests = sym (requests_both roots script front back tree) ∙ ap (λ cs. requests_of roots script cs tree) split
+
+  front_ran : new.ran ≡ old.ran ++ so_far → RanFront (requests_of roots script changes tree) old new
+  front_ran ran = subst (λ requests. RanFront requests old new) all_requests (front_first so_far to_come old new (front_all so_far old new ran))
+
+  more_ran : (mid : State) → mid.ran ≡ old.ran ++ so_far → RanFront to_come mid new → RanFront (requests_of roots script changes tree) old new
+  more_ran mid ran r = subst (λ requests. RanFront requests old new) all_requests (front_then so_far to_come old mid new ran r)
+
 -- the next change, done or stopped
 module _ (roots : Roots) (front back : List Change) (change : Change) (changes : List Change) (split : front ++ change ∷ back ≡ changes) (old now new : State) (made : Ran)
     (result : Result (Option Reply) WorldError) (h : HasDone roots front changes old now made) (d : DoesChange roots change now new result) where
@@ -163,6 +188,13 @@ module _ (roots : Roots) (front back : List Change) (change : Change) (changes :
           spread [] one = member_right area (areas_of back) old.history.soft one
           spread (x ∷ xs) (inl here) = inl here
           spread (x ∷ xs) (inr later) = inr (spread xs later)
+
+  next_ran : ForSome old.tree (λ tree. RanFront (requests_of roots old.script changes tree) old new)
+  next_ran tree told =
+      let was = h.done tree told in
+      let before : Tree = done roots old.script front tree in
+      more_ran roots old.script front (change ∷ back) changes split tree old new now was.ran
+      (front_first (request_at change before) (requests_of roots old.script back (do_change roots old.script change before)) now new (d.ran before was.tree))
 
   next_cut : ForSome old.tree (IsCutOffNow roots old.script changes new.tree)
   next_cut tree told =
@@ -206,6 +238,7 @@ pub stopped_next : (roots : Roots) (front back : List Change) (change : Change) 
     → HasDone roots front changes old now made → DoesChange roots change now new (Err error) → DoesChanges roots changes old new (Err error)
 stopped_next roots front back change changes split old now new made error h d = record {
   done = λ tree told. tt;
+  ran = next_ran roots front back change changes split old now new made (Err error) h d;
   cut_off = next_cut roots front back change changes split old now new made (Err error) h d;
   soft = all_soft roots front back change changes split old now new made (Err error) h d;
   moments = next_moments roots front back change changes split old now new made (Err error) h d;
@@ -249,6 +282,7 @@ module _ (roots : Roots) (front back changes : List Change) (split : front ++ ba
 pub done_all : (roots : Roots) (front changes : List Change) → front ≡ changes → (old now : State) (made : Ran) → HasDone roots front changes old now made → DoesChanges roots changes old now (Ok made)
 done_all roots front changes all old now made h = record {
   done = λ tree told. subst (λ cs. AreChanged roots cs old now made tree) all (h.done tree told);
+  ran = λ tree told. front_ran roots old.script front [] changes (append-nil front ∙ all) tree old now (h.done tree told).ran;
   cut_off = λ tree told. record { front = front; back = []; split = append-nil front ∙ all; now = done roots old.script front tree; told = (h.done tree told).tree; within = refl };
   soft = behind_soft roots front [] changes (append-nil front ∙ all) old now made h;
   moments = h.moments;
@@ -287,6 +321,7 @@ module _ (roots : Roots) (changes : List Change) (i : ℕ) (change : Change) (wi
       let split : (take i changes ++ change ∷ []) ++ drop (i + 1) changes ≡ changes = append_assoc (take i changes) (change ∷ []) (drop (i + 1) changes) ∙ split_here changes i change within is in
       record {
         done = λ tree told. tt;
+        ran = next_ran roots (take i changes) (drop (i + 1) changes) change changes (split_here changes i change within is) old now new made (Ok reply) h d;
         cut_off = next_cut roots (take i changes) (drop (i + 1) changes) change changes (split_here changes i change within is) old now new made (Ok reply) h d;
         soft = behind_soft roots (take i changes ++ change ∷ []) (drop (i + 1) changes) changes split old new more g;
         moments = g.moments;

@@ -1,5 +1,5 @@
 -- The journal goes last.
-use Rattle.std.proofs.Common.{◌≡◌, true, false, List, [], Option, Some, None, is_some, Result, Ok, Err, refl, sym, ap, ◌∙◌, subst, inl, inr, arith}
+use Rattle.std.proofs.Common.{◌≡◌, ◌⊎◌, true, false, List, [], Option, Some, None, is_some, Result, Ok, Err, refl, sym, ap, ◌∙◌, subst, inl, inr, arith}
 use Rattle.std.specs.Prelude.{option_map}
 use Rattle.std.specs.Option.{ForSome}
 use Rattle.kb_world.specs.Area.{IsLeft}
@@ -13,25 +13,28 @@ use Rattle.kb_world.specs.declared.world.WorldError.{WorldError}
 use Rattle.kb_world.specs.declared.world.WorldError.TheVariants.{Failed, NoMemory}
 use Rattle.kb_world.proofs.CrashLaws.{adds_then, adds_wider, turns_adds, turns_none}
 use Rattle.kb_world.proofs.CallLaws.{cause_then, lasts_then}
-use Rattle.kb_changes.specs.Change.{done}
+use Rattle.kb_changes.specs.Change.{done, requests_of}
 use Rattle.kb_changes.specs.Valid.{is_valid}
 use Rattle.kb_changes.specs.declared.change.Change.{Change}
 use Rattle.kb_changes.specs.declared.change.Intent.{Intent}
 use Rattle.kb_again.specs.Sparing.{AreSparing, areas_of}
 use Rattle.kb_again.specs.Within.{staging_paths}
 use Rattle.kb_again.proofs.Laws.{settled_sparing}
+use Rattle.kb_machine.specs.Behind.{touched_by, LeavesBehind}
 use Rattle.kb_machine.specs.Commits.{cleaned}
 use Rattle.kb_machine.specs.Opens.{IsReady, Opens, own_areas}
 use Rattle.kb_machine.specs.Stands.{Stands, Rests}
+use Rattle.kb_machine.proofs.BehindLaws.{front_all}
 use Rattle.kb_machine.proofs.RestLaws.{spared_public, spared_journal, opens-none, rests_from}
 use Rattle.kb_walk.proofs.WipeCalls.{HasFormedTree, cause_handed}
 use Rattle.kb_intent.specs.Clearing.{SettlesAll, without_trees, TakesAllAway}
 use Rattle.kb_intent.specs.Doing.{DoesChanges}
 use Rattle.kb_intent.specs.Finish.{HasJournal, store_after, EndsTransaction}
 use Rattle.kb_intent.specs.declared.changing.Ran.{Ran}
+use Rattle.kb_intent.proofs.BehindLaws.{keeps_but, but_then}
 use Rattle.kb_intent.proofs.ChangeLaws.{cause_of_ok}
-use Rattle.kb_intent.proofs.FinishLaws.{journal_valid, IsOnTheWay, way_begins, way_settles, way_takes, way_opens, way_stands}
-use Rattle.kb_intent.proofs.StandingLaws.{sparing_now, unstaged_journal, done_journal, cleaned_is, unstaged_public, bare_public, bare_journal}
+use Rattle.kb_intent.proofs.FinishLaws.{unstaged_but, journal_valid, IsOnTheWay, way_begins, way_settles, way_takes, way_opens, way_stands}
+use Rattle.kb_intent.proofs.StandingLaws.{bare_hidden, sparing_now, unstaged_journal, done_journal, cleaned_is, unstaged_public, bare_public, bare_journal}
 
 -- nothing was begun, for want of memory
 pub wants_change : {T : Type 0} (change : Tree → Tree) (state : State) → Changes change {T = T} state state (Err NoMemory)
@@ -71,6 +74,21 @@ module _ (roots : Roots) (changes : List Change) (old ran settling bare : State)
     (d : DoesChanges roots changes old ran (Ok made)) (s : SettlesAll (areas_of changes) {T = Unit {0}} ran settling (Ok tt)) (t : TakesAllAway (staging_paths roots) {T = Unit {0}} settling bare (Ok tt)) where
   way_there : IsOnTheWay roots changes {T = Unit {0}} old bare (Ok tt)
   way_there = way_takes roots changes old settling bare tt (Ok tt) (way_settles roots changes old ran settling made (Ok tt) (way_begins roots changes old ran made d) s) t
+
+  -- what is left behind, with the journal or without it
+  end_behind : (new : State) → new.ran ≡ bare.ran → (new.tree ≡ bare.tree) ⊎ (new.tree ≡ option_map (without (intent_path roots)) bare.tree)
+      → ForSome old.tree (λ tree. LeavesBehind roots (requests_of roots old.script changes tree) (touched_by changes) tree old new)
+  end_behind new ran either tree told =
+      let before = way_there.tree tree told in
+      let but = unstaged_but roots old.script changes tree before.0 before.2 in
+      record {
+        ran = front_all (requests_of roots old.script changes tree) old new (ran ∙ way_there.ran tree told);
+        foreign = elim either [
+          | inl same ↦ keeps_but roots (touched_by changes) tree before.0 new (same ∙ before.1) but
+          | inr gone ↦ keeps_but roots (touched_by changes) tree (without (intent_path roots) before.0) new (gone ∙ ap (option_map (without (intent_path roots))) before.1)
+              (but_then roots (touched_by changes) tree before.0 (without (intent_path roots) before.0) but (bare_hidden roots before.0))
+        ];
+      }
 
   -- no soft area does harm then
   spares_there : is_valid roots changes ≡ true → AreSparing roots (areas_of changes) old.history.soft → AreSparing roots [] bare.history.soft
@@ -151,6 +169,7 @@ module _ (roots : Roots) (changes : List Change) (old ran settling bare : State)
     pub end_stopped : (error : WorldError) → Changes (without (intent_path roots)) {T = Unit {0}} bare new (Err error) → EndsTransaction roots changes old new (Err error)
     end_stopped error c = record {
       done = λ tree told. tt;
+      behind = end_behind new c.ran_none.ran (either error c);
       survives = λ tree told intent journal same spares. record {
         each_moment = end_opens tree told intent journal same spares (Err error) c;
         stands = end_stands tree told intent journal same spares error c;
@@ -159,6 +178,10 @@ module _ (roots : Roots) (changes : List Change) (old ran settling bare : State)
       lasts = lasts_then old bare new way_there.lasts c.ran_none.lasts;
       cause = cause_handed old new error (cause_then Failed old bare new (Ok tt) (Err error) way_there.lasts.told way_there.cause c.cause);
     }
+      where
+        either : (error : WorldError) → Changes (without (intent_path roots)) {T = Unit {0}} bare new (Err error) → (new.tree ≡ bare.tree) ⊎ (new.tree ≡ option_map (without (intent_path roots)) bare.tree)
+        either Failed c = c.failed refl
+        either NoMemory c = inl (c.no_memory refl)
 
     -- it is gone
     pub end_done : HasFormedTree ran → ForSome old.tree (λ tree. (intent : Intent) × HasJournal roots intent tree × (intent.changes ≡ changes)) → Changes (without (intent_path roots)) {T = Unit {0}} bare new (Ok tt)
@@ -175,6 +198,7 @@ module _ (roots : Roots) (changes : List Change) (old ran settling bare : State)
             };
             requests = (d.done tree told).requests;
           };
+      behind = end_behind new c.ran_none.ran (inr c.done);
       survives = λ tree told intent journal same spares.
           let rests = end_rests tree told intent journal same spares c.soft c.done in
           record { each_moment = end_opens tree told intent journal same spares (Ok tt) c; stands = rests.stands; rests = rests };

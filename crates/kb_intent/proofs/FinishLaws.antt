@@ -20,17 +20,20 @@ use Rattle.kb_changes.specs.declared.change.Intent.{Intent}
 use Rattle.kb_again.specs.Sparing.{AreSparing, areas_of}
 use Rattle.kb_again.specs.Within.{IsBetween, IsUnstaged, staging_paths}
 use Rattle.kb_again.proofs.Laws.{between_done_alike, own_sparing}
-use Rattle.kb_machine.specs.Aside.{IsOneArea}
+use Rattle.kb_machine.specs.Aside.{IsOneArea, IsSameBut}
+use Rattle.kb_machine.specs.Behind.{touched_by}
 use Rattle.kb_machine.specs.Opens.{Opens}
 use Rattle.kb_machine.specs.Stands.{Stands}
 use Rattle.kb_machine.proofs.AsideThenLaws.{all_append, left_by_members}
+use Rattle.kb_machine.proofs.BehindLaws.{front_all}
 use Rattle.kb_walk.proofs.WipeCalls.{HasFormedTree, cause_handed}
 use Rattle.kb_intent.specs.Clearing.{SettlesAll, LeftOfGone, TakesAllAway}
 use Rattle.kb_intent.specs.Doing.{DoesChanges}
 use Rattle.kb_intent.specs.Finish.{HasJournal, store_after, KeepsOpening, EndsTransaction}
 use Rattle.kb_intent.specs.declared.changing.Ran.{Ran}
+use Rattle.kb_intent.proofs.BehindLaws.{or_private, keeps_but, but_then, done_but, cut_but}
 use Rattle.kb_intent.proofs.ClearingLaws.{all_through, gone_none, gone_then}
-use Rattle.kb_intent.proofs.StandingLaws.{sparing_now, cut_alike, unstaged_alike, opens_alike, stands_alike}
+use Rattle.kb_intent.proofs.StandingLaws.{unstaged_hidden, sparing_now, cut_alike, unstaged_alike, opens_alike, stands_alike}
 
 -- ---- behind the changes, while what their children left is settled and what is staged goes
 
@@ -98,6 +101,12 @@ way_takes roots changes old mid new value result w t = record {
   cause = cause_then Failed old mid new (Ok value) result w.lasts.told w.cause t.cause;
 }
 
+-- of what is foreign that leaves what the changes don't touch
+pub unstaged_but : (roots : Roots) (script : Script) (changes : List Change) (tree now : Tree) → IsUnstaged roots (done roots script changes tree) now
+    → IsSameBut (or_private roots (touched_by changes)) tree now
+unstaged_but roots script changes tree now gone =
+    but_then roots (touched_by changes) tree (done roots script changes tree) now (done_but roots script changes tree) (unstaged_hidden roots (done roots script changes tree) now gone)
+
 -- ---- what survives
 
 -- what a journal has is valid
@@ -113,6 +122,9 @@ module _ (roots : Roots) (changes : List Change) (old : State) (apart : AreApart
   pub changes_stopped : (new : State) (error : WorldError) → HasFormedTree new → DoesChanges roots changes old new (Err error) → EndsTransaction roots changes old new (Err error)
   changes_stopped new error formed_new d = record {
     done = λ tree told. tt;
+    behind = λ tree told.
+        let cut = d.cut_off tree told in
+        record { ran = d.ran tree told; foreign = keeps_but roots (touched_by changes) tree cut.now new cut.told (cut_but roots old.script changes new.tree tree cut) };
     survives = λ tree told intent journal same spares.
         let valid = journal_valid roots changes tree intent journal same in
         let cut = d.cut_off tree told in
@@ -158,6 +170,12 @@ module _ (roots : Roots) (changes : List Change) (old : State) (apart : AreApart
   pub way_stopped : {T : Type 0} (new : State) (error : WorldError) → HasFormedTree new → IsOnTheWay roots changes {T = T} old new (Err error) → EndsTransaction roots changes old new (Err error)
   way_stopped new error formed_new w = record {
     done = λ tree told. tt;
+    behind = λ tree told.
+        let now = w.tree tree told in
+        record {
+          ran = front_all (requests_of roots old.script changes tree) old new (w.ran tree told);
+          foreign = keeps_but roots (touched_by changes) tree now.0 new now.1 (unstaged_but roots old.script changes tree now.0 now.2);
+        };
     survives = λ tree told intent journal same spares. record {
       each_moment = way_opens tree told intent journal same spares new (Err error) w;
       stands = way_stands tree told intent journal same spares new (Err error) formed_new w;

@@ -1,3 +1,4 @@
+pub mod BehindLaws
 pub mod ButLaws
 pub mod ChangeLaws
 pub mod ChangesLaws

@@ -24,11 +24,12 @@ use Rattle.kb_world.specs.declared.world.WorldError.{WorldError}
 use Rattle.kb_world.specs.declared.world.WorldError.TheVariants.{Failed, NoMemory}
 use Rattle.kb_world.proofs.CrashLaws.{adds_none}
 use Rattle.kb_world.proofs.CallLaws.{rose_since, unchanged_none}
-use Rattle.kb_changes.specs.Change.{done}
+use Rattle.kb_changes.specs.Change.{done, requests_of}
 use Rattle.kb_changes.specs.Text.{IsJournal}
 use Rattle.kb_changes.specs.declared.change.Intent.{Intent}
 use Rattle.kb_changes.specs.declared.change.Recovered.{Recovered}
 use Rattle.kb_again.specs.Sparing.{AreSparing, areas_of}
+use Rattle.kb_machine.specs.Behind.{touched_by, LeavesBehind}
 use Rattle.kb_machine.specs.Opens.{IsReady, at_rest, recovers, own_areas}
 use Rattle.kb_machine.specs.Stands.{Stands}
 use Rattle.kb_machine.proofs.RestLaws.{spared_journal, ready_at_rest}
@@ -36,6 +37,7 @@ use Rattle.kb_walk.proofs.WipeCalls.{HasFormedTree}
 use Rattle.kb_intent.specs.Finish.{HasJournal, store_after, KeepsOpening, EndsTransaction}
 use Rattle.kb_intent.specs.Recover.{FoundJournal, HasDamagedJournal, IsDamageTold, Recovers}
 use Rattle.kb_intent.specs.declared.changing.Ran.{Ran}
+use Rattle.kb_intent.proofs.BehindLaws.{unchanged_behind}
 use Rattle.kb_intent.proofs.EndLaws.{stands_same}
 
 some_same : (a b : Tree) → Some a ≡ Some b → a ≡ b
@@ -62,6 +64,8 @@ recovers_stopped roots old new stop u cause refused = record {
   found = λ tree told. tt;
   refused = λ why is. refused why (stops_same stop (Refused why) is);
   damaged = λ tree told damage. u;
+  at_rest = λ tree told bare. u;
+  behind = λ tree told intent journal. unchanged_behind roots (requests_of roots old.script intent.changes tree) (touched_by intent.changes) tree old new told u;
   survives = λ tree told store stands. record { each_moment = unchanged_moments _ old new u; stands = unchanged_stands roots store old new u stands; rests = tt };
   lasts = u.ran_none.lasts;
   cause = cause;
@@ -127,9 +131,16 @@ module _ {A : Type 0} (roots : Roots) (old mid new : State) (looked : Result A W
     history = l.unchanged.history i;
   }
 
+  unchanged_since : Unchanged as_old new → Unchanged old new
+  unchanged_since u = record {
+    tree = u.tree;
+    history = u.history;
+    ran_none = record { ran = u.ran_none.ran; lasts = record { roots = u.ran_none.lasts.roots; script = u.ran_none.lasts.script; told = u.ran_none.lasts.told } };
+  }
+
   found_since : (tree : Tree) (r : Result (Option Recovered) Stop) → IfOk r (FoundJournal roots as_old new tree) → IfOk r (FoundJournal roots old new tree)
   found_since tree (Err stop) f = tt
-  found_since tree (Ok None) f = record { bare = f.bare; unchanged = record { tree = f.unchanged.tree; history = f.unchanged.history; ran_none = record { ran = f.unchanged.ran_none.ran; lasts = record { roots = f.unchanged.ran_none.lasts.roots; script = f.unchanged.ran_none.lasts.script; told = f.unchanged.ran_none.lasts.told } } } }
+  found_since tree (Ok None) f = record { bare = f.bare; unchanged = unchanged_since f.unchanged }
   found_since tree (Ok (Some found)) f = record {
     intent = f.intent;
     stood = f.stood;
@@ -142,11 +153,11 @@ module _ {A : Type 0} (roots : Roots) (old mid new : State) (looked : Result A W
   by_parts h = record {
     found = λ tree told. found_since tree result (h.found tree told);
     refused = λ why is. let d = h.refused why is in record { path = d.path; damaged = d.damaged };
-    damaged = λ tree told damage. let u = h.damaged tree told damage in record {
-      tree = u.tree;
-      history = u.history;
-      ran_none = record { ran = u.ran_none.ran; lasts = record { roots = u.ran_none.lasts.roots; script = u.ran_none.lasts.script; told = u.ran_none.lasts.told } };
-    };
+    damaged = λ tree told damage. unchanged_since (h.damaged tree told damage);
+    at_rest = λ tree told bare. unchanged_since (h.at_rest tree told bare);
+    behind = λ tree told intent journal.
+        let b = h.behind tree told intent journal in
+        record { ran = record { front = b.ran.front; back = b.ran.back; split = b.ran.split; ran = b.ran.ran }; foreign = b.foreign };
     survives = λ tree told store stands.
         let k = h.survives tree told store (record { opens = stands.opens; spares = stands.spares }) in
         record { each_moment = k.each_moment; stands = k.stands; rests = k.rests };
@@ -178,6 +189,9 @@ recovers_bare roots state bare = record {
   found = λ tree told. record { bare = bare tree told; unchanged = unchanged_none state };
   refused = λ why is. absurd (not_refused why is);
   damaged = λ tree told damage. unchanged_none state;
+  at_rest = λ tree told none. unchanged_none state;
+  behind = λ tree told intent journal.
+      unchanged_behind roots (requests_of roots state.script intent.changes tree) (touched_by intent.changes) tree state state told (unchanged_none state);
   survives = λ tree told store stands. record {
     each_moment = adds_none _ state.history state.history refl;
     stands = stands;
@@ -280,6 +294,15 @@ module _ (roots : Roots) (intent : Intent) (old new : State) (formed : HasFormed
       let is = store_is tree told store stands in
       subst (λ other. KeepsOpening roots other old new result) is.0 (f.survives tree told intent (journal tree told) refl is.1)
 
+  -- one stands, and it is this intent's
+  not_at_rest : (tree : Tree) → old.tree ≡ Some tree → node_at tree (intent_path roots) ≡ None → ⊥
+  not_at_rest tree told none = let stood = journal tree told in not_none (nodes.File stood.bytes stood.exec) (sym stood.stands ∙ none)
+
+  left_behind : (result : Result Ran WorldError) → EndsTransaction roots intent.changes old new result → (tree : Tree) → old.tree ≡ Some tree → (other : Intent) → HasJournal roots other tree
+      → LeavesBehind roots (requests_of roots old.script other.changes tree) (touched_by other.changes) tree old new
+  left_behind result f tree told other stood =
+      subst (λ (i : Intent). LeavesBehind roots (requests_of roots old.script i.changes tree) (touched_by i.changes) tree old new) (sym (only tree told other stood)) (f.behind tree told)
+
   pub recovers_done : (ran : Ran) → EndsTransaction roots intent.changes old new (Ok ran) → Recovers roots old new (Ok (Some (record { words = intent.words; requests = ran.requests; replies = ran.replies })))
   recovers_done ran f = record {
     found = λ tree told. record {
@@ -291,6 +314,8 @@ module _ (roots : Roots) (intent : Intent) (old new : State) (formed : HasFormed
     };
     refused = λ why is. absurd (not_stopped (Refused why) is);
     damaged = λ tree told damage. absurd (damage.no_journal intent (journal tree told));
+    at_rest = λ tree told none. absurd (not_at_rest tree told none);
+    behind = left_behind (Ok ran) f;
     survives = λ tree told store stands. let k = keeps (Ok ran) f tree told store stands in record { each_moment = k.each_moment; stands = k.stands; rests = k.rests };
     lasts = f.lasts;
     cause = record {
@@ -309,6 +334,8 @@ module _ (roots : Roots) (intent : Intent) (old new : State) (formed : HasFormed
     found = λ tree told. tt;
     refused = λ why failed. absurd (unrefused error why (stops_same (stop_for error) (Refused why) failed));
     damaged = λ tree told damage. absurd (damage.no_journal intent (journal tree told));
+    at_rest = λ tree told none. absurd (not_at_rest tree told none);
+    behind = left_behind (Err error) f;
     survives = λ tree told store stands. let k = keeps (Err error) f tree told store stands in record { each_moment = k.each_moment; stands = k.stands; rests = tt };
     lasts = f.lasts;
     cause = stop_cause old new error f.cause;

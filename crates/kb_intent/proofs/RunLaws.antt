@@ -8,7 +8,7 @@ use Rattle.kb_world.specs.Area.{is_named, holds, lets_differ, IsLeft}
 use Rattle.kb_world.specs.Crash.{History, LeftOf, Adds}
 use Rattle.kb_world.specs.Path.{Path, parent, is_under}
 use Rattle.kb_world.specs.Script.{Script, answer_in, tree_after, after_edits, with_edit, can_edit, edit_of, copied}
-use Rattle.kb_world.specs.State.{State, Looks, HasCause, Runs, IsReplied}
+use Rattle.kb_world.specs.State.{State, Looks, HasCause, Runs, IsReplied, EndsAs}
 use Rattle.kb_world.specs.Tree.{Tree, node_at, edited, is_dir, IsFormed}
 use Rattle.kb_world.specs.TreeLaws.{same_path, same_path-true, same_path-refl, with_node-here, with_node-apart, remove-here, remove-apart}
 use Rattle.kb_world.specs.View.{view_of}
@@ -35,6 +35,8 @@ use Rattle.kb_walk.proofs.WipeLaws.{cleared_at}
 use Rattle.kb_walk.proofs.WipeCalls.{HasFormedTree, cause_handed, done_not_failed}
 use Rattle.kb_again.specs.Sparing.{areas_of}
 use Rattle.kb_again.specs.Within.{IsWithin}
+use Rattle.kb_machine.specs.Behind.{RanFront}
+use Rattle.kb_machine.proofs.BehindLaws.{front_none, front_all, front_since}
 use Rattle.kb_intent.specs.Doing.{DoesChange, IsChanged, IsWithinNow, LeftWithin}
 
 cause_of_ok : {A B : Type 0} (old new : State) (a : A) (b : B) → HasCause {T = A} Failed old new (Ok a) → HasCause {T = B} Failed old new (Ok b)
@@ -62,6 +64,7 @@ module _ (roots : Roots) (path : Path) (old new : State) where
   pub does_wipe : (u : Unit {0}) → TakesAway (without_tree path) path old new (Ok u) → DoesChange roots (changes.Wipe path) old new (Ok None)
   does_wipe u t = record {
     done = λ tree told. record { tree = t.done ∙ ap (option_map (without_tree path)) told; ran = t.ran_none.ran ∙ sym (append-nil old.ran); said = refl };
+    ran = λ tree told. front_none [] old new t.ran_none.ran;
     within = wipe_within (Ok u) t;
     soft = inl t.soft;
     moments = wipe_moments (Ok u) t;
@@ -72,6 +75,7 @@ module _ (roots : Roots) (path : Path) (old new : State) where
   pub stops_wipe : (error : WorldError) → TakesAway (without_tree path) path {T = Unit {0}} old new (Err error) → DoesChange roots (changes.Wipe path) old new (Err error)
   stops_wipe error t = record {
     done = λ tree told. tt;
+    ran = λ tree told. front_none [] old new t.ran_none.ran;
     within = wipe_within (Err error) t;
     soft = inl t.soft;
     moments = wipe_moments (Err error) t;
@@ -82,7 +86,7 @@ module _ (roots : Roots) (path : Path) (old new : State) where
 -- ---- what a child does lies in its area
 
 -- at the path it is as it was, or the area lets it differ
-abbrev DiffersIn : Area → Path → Option Node → Option Node → Type 0
+abbrev pub DiffersIn : Area → Path → Option Node → Option Node → Type 0
 DiffersIn area q was left = (left ≡ was) ⊎ (lets_differ area q was left ≡ true)
 
 differs_then : (area : Area) (q : Path) (was mid left : Option Node) → DiffersIn area q was mid → DiffersIn area q mid left → DiffersIn area q was left
@@ -150,7 +154,7 @@ edits_differ area view tree (effect ∷ effects) q =
     differs_then area q (node_at tree q) (node_at (with_edit area tree (edit_of view effect)) q) _ (edit_differs area tree (edit_of view effect) q (leaf_edit view effect))
     (edits_differ area view (with_edit area tree (edit_of view effect)) effects q)
 
-run_differs : (roots : Roots) (script : Script) (request : Request) (tree : Tree) (q : Path) → DiffersIn request.area q (node_at tree q) (node_at (tree_after roots script request tree) q)
+pub run_differs : (roots : Roots) (script : Script) (request : Request) (tree : Tree) (q : Path) → DiffersIn request.area q (node_at tree q) (node_at (tree_after roots script request tree) q)
 unfolding tree_after
 run_differs roots script request tree q = edits_differ request.area (view_of roots request tree) tree (answer_in roots script request tree).effects q
 
@@ -179,6 +183,18 @@ module _ (roots : Roots) (request : Request) (old new : State) (rooted : ForSome
         left = subst (λ o. LeftOf (request.area ∷ old.history.soft) o image) told left;
       }) r.moments
 
+  -- it asks for this one child
+  requests_here : (tree : Tree) → old.tree ≡ Some tree → request ∷ [] ≡ request_at (changes.Run request) tree
+  requests_here tree told = sym (ap (λ b. cond b (request ∷ []) []) (there tree told))
+
+  run_ran : (result : Result Reply WorldError) → Runs request old new result → ForSome old.tree (λ tree. RanFront (request_at (changes.Run request) tree) old new)
+  run_ran result r tree told = subst (λ requests. RanFront requests old new) (requests_here tree told) (by result (r.ends tree told))
+    where
+      by : (ended : Result Reply WorldError) → EndsAs request old new ended tree → RanFront (request ∷ []) old new
+      by (Ok reply) is = front_all (request ∷ []) old new is.ran
+      by (Err Failed) cut = front_all (request ∷ []) old new cut.1
+      by (Err NoMemory) cut = elim cut.1 [ inl same ↦ front_none (request ∷ []) old new same | inr ran ↦ front_all (request ∷ []) old new ran ]
+
   run_soft : (result : Result Reply WorldError) → Runs request old new result → (new.history.soft ≡ old.history.soft) ⊎ (new.history.soft ≡ request.area ∷ old.history.soft)
   run_soft result r = elim r.begun [ inl not_begun ↦ inl not_begun.soft | inr given ↦ inr given ]
 
@@ -190,6 +206,7 @@ module _ (roots : Roots) (request : Request) (old new : State) (rooted : ForSome
       said = ap (λ said. said ∷ []) (is.said ∙ ap (λ root. (answer_in root old.script request tree).reply) (rooted tree told))
           ∙ sym (ap (λ b. map (λ other. (answer_in roots old.script other tree).reply) (cond b (request ∷ []) [])) (there tree told));
     };
+    ran = run_ran (Ok reply) r;
     within = run_within (Ok reply) r;
     soft = run_soft (Ok reply) r;
     moments = run_moments (Ok reply) r;
@@ -200,6 +217,7 @@ module _ (roots : Roots) (request : Request) (old new : State) (rooted : ForSome
   pub stops_run : (error : WorldError) → Runs request old new (Err error) → DoesChange roots (changes.Run request) old new (Err error)
   stops_run error r = record {
     done = λ tree told. tt;
+    ran = run_ran (Err error) r;
     within = run_within (Err error) r;
     soft = run_soft (Err error) r;
     moments = run_moments (Err error) r;
@@ -213,6 +231,7 @@ pub does_since : {A : Type 0} (roots : Roots) (change : Change) (old mid new : S
     → DoesChange roots change mid new result → DoesChange roots change old new result
 does_since roots change old mid new looked result l d = record {
   done = λ tree told. by tree result (d.done tree (l.unchanged.tree ∙ told));
+  ran = λ tree told. front_since (request_at change tree) old mid new l.unchanged.ran_none.ran (d.ran tree (l.unchanged.tree ∙ told));
   within = λ tree told. subst (λ script. IsWithinNow roots script change new.tree tree) l.unchanged.ran_none.lasts.script (d.within tree (l.unchanged.tree ∙ told));
   soft = subst (λ (h : History). (new.history.soft ≡ h.soft) ⊎ (new.history.soft ≡ areas_of (change ∷ []) ++ h.soft)) l.unchanged.history d.soft;
   moments = λ tree told. subst (λ (h : History). Adds (LeftWithin roots old.script change h.soft tree) h new.history) l.unchanged.history
@@ -238,6 +257,7 @@ module _ (roots : Roots) (request : Request) (old new : State) (formed : HasForm
       ran = l.unchanged.ran_none.ran ∙ sym (append-nil old.ran) ∙ sym (ap (λ b. old.ran ++ cond b (request ∷ []) []) (sym (absent tree told)));
       said = sym (ap (λ b. map (λ other. (answer_in roots old.script other tree).reply) (cond b (request ∷ []) [])) (sym (absent tree told)));
     };
+    ran = λ tree told. front_none (request_at (changes.Run request) tree) old new l.unchanged.ran_none.ran;
     within = λ tree told. (tree, l.unchanged.tree ∙ told, left_same (request.area ∷ []) tree (formed tree told));
     soft = inl (ap (λ (h : History). h.soft) l.unchanged.history);
     moments = λ tree told. adds_none _ old.history new.history (ap (λ (h : History). h.past) l.unchanged.history);
@@ -248,6 +268,7 @@ module _ (roots : Roots) (request : Request) (old new : State) (formed : HasForm
   pub stops_look : {A : Type 0} (error : WorldError) → Looks {T = A} old new (Err error) → DoesChange roots (changes.Run request) old new (Err error)
   stops_look error l = record {
     done = λ tree told. tt;
+    ran = λ tree told. front_none (request_at (changes.Run request) tree) old new l.unchanged.ran_none.ran;
     within = λ tree told. (tree, l.unchanged.tree ∙ told, left_same (request.area ∷ []) tree (formed tree told));
     soft = inl (ap (λ (h : History). h.soft) l.unchanged.history);
     moments = λ tree told. adds_none _ old.history new.history (ap (λ (h : History). h.past) l.unchanged.history);

@@ -38,7 +38,7 @@ use Rattle.kb_intent.proofs.ClearingLaws.{member_has, any_front, any_behind, wit
 
 -- ---- what is private isn't in the public tree
 
-abbrev IsHiddenFrom : Roots → Tree → Tree → Type 0
+abbrev pub IsHiddenFrom : Roots → Tree → Tree → Type 0
 IsHiddenFrom roots before after = (q : Path) → (node_at after q ≡ node_at before q) ⊎ (is_private roots q ≡ true)
 
 hidden_public : (roots : Roots) (before after : Tree) → IsHiddenFrom roots before after → public_tree roots after ≡ public_tree roots before
@@ -59,14 +59,19 @@ hidden_public roots before after hidden = same_tree _ _ (λ q. node_at-public_tr
 or_left : (a b : Bool) → a ≡ true → (a || b) ≡ true
 or_left a b h = ap (λ x. x || b) h
 
-staged_private : (roots : Roots) (q : Path) → list_any (is_under q) (staging_paths roots) ≡ true → is_private roots q ≡ true
+pub staged_private : (roots : Roots) (q : Path) → list_any (is_under q) (staging_paths roots) ≡ true → is_private roots q ≡ true
 staged_private roots q staged =
     or_left _ (is_in_scratch (store_path roots q))
     (any_behind (is_under q) (intent_path roots ∷ new_intent_path roots ∷ []) (staging_paths roots ++ child roots.boot (codes ".kb-plugins") ∷ [])
     (any_front (is_under q) (staging_paths roots) (child roots.boot (codes ".kb-plugins") ∷ []) staged))
 
-journal_private : (roots : Roots) → is_private roots (intent_path roots) ≡ true
+pub journal_private : (roots : Roots) → is_private roots (intent_path roots) ≡ true
 journal_private roots = or_left _ (is_in_scratch (store_path roots (intent_path roots))) (or_left _ _ (under-self (intent_path roots)))
+
+pub begun_private : (roots : Roots) (q : Path) → is_under q (new_intent_path roots) ≡ true → is_private roots q ≡ true
+begun_private roots q begun =
+    or_left _ (is_in_scratch (store_path roots q))
+    (any_behind (is_under q) (intent_path roots ∷ []) (new_intent_path roots ∷ staging_paths roots ++ child roots.boot (codes ".kb-plugins") ∷ []) (or_left (is_under q (new_intent_path roots)) _ begun))
 
 -- the tree without its journal
 module _ (roots : Roots) (tree : Tree) where
@@ -80,8 +85,11 @@ module _ (roots : Roots) (tree : Tree) where
       by true e = inr (ap (is_private roots) (same_path-true q (intent_path roots) e) ∙ journal_private roots)
       by false e = inl (node_at-remove tree (intent_path roots) q ∙ ap (λ b. cond b None (node_at tree q)) e)
 
+pub unstaged_hidden : (roots : Roots) (before now : Tree) → IsUnstaged roots before now → IsHiddenFrom roots before now
+unstaged_hidden roots before now gone q = elim (gone q) [ inl same ↦ inl same | inr staged ↦ inr (staged_private roots q staged.0) ]
+
 pub unstaged_public : (roots : Roots) (before now : Tree) → IsUnstaged roots before now → public_tree roots now ≡ public_tree roots before
-unstaged_public roots before now gone = hidden_public roots before now (λ q. elim (gone q) [ inl same ↦ inl same | inr staged ↦ inr (staged_private roots q staged.0) ])
+unstaged_public roots before now gone = hidden_public roots before now (unstaged_hidden roots before now gone)
 
 pub bare_public : (roots : Roots) (tree : Tree) → public_tree roots (without (intent_path roots) tree) ≡ public_tree roots tree
 bare_public roots tree = hidden_public roots tree (without (intent_path roots) tree) (bare_hidden roots tree)

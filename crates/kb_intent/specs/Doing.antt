@@ -21,6 +21,7 @@ use Rattle.kb_changes.specs.declared.change.Change.TheVariants.{Dir, Put, Drop, 
 use Rattle.kb_again.specs.Sparing.{areas_of}
 use Rattle.kb_again.specs.Within.{IsWithin, IsWithinNext, IsBetween}
 use Rattle.kb_machine.specs.Aside.{IsOneArea}
+use Rattle.kb_machine.specs.Behind.{RanFront}
 use Rattle.kb_intent.specs.declared.changing.Ran.{Ran}
 
 -- ---- a change that is one file operation
@@ -80,9 +81,10 @@ pub record LeftWithin (roots : Roots) (script : Script) (change : Change) (soft 
   pub within : IsWithin roots script change tree mid
   pub left : IsLeft (areas_of (change ∷ []) ++ soft) mid image
 
--- The call does the change, and whatever it answers nothing else is changed.
+-- The call does the change, and whatever it answers nothing else is changed, and no other child ran.
 pub record DoesChange (roots : Roots) (change : Change) (old new : State) (result : Result (Option Reply) WorldError) : Type 0 where
   pub done : ForSome old.tree (λ tree. IfOk result (λ reply. IsChanged roots change old new reply tree))
+  pub ran : ForSome old.tree (λ tree. RanFront (request_at change tree) old new)
   pub within : ForSome old.tree (IsWithinNow roots old.script change new.tree)
   pub soft : (new.history.soft ≡ old.history.soft) ⊎ (new.history.soft ≡ areas_of (change ∷ []) ++ old.history.soft)
   pub moments : ForSome old.tree (λ tree. Adds (LeftWithin roots old.script change old.history.soft tree) old.history new.history)
@@ -117,9 +119,11 @@ pub record IsCutOffNow (roots : Roots) (script : Script) (changes : List Change)
   pub told : new ≡ Some now
   pub within : IsWithinNext roots script back (done roots script front before) now
 
--- The call does the changes in their order, and whatever it answers nothing else is changed.
+-- The call does the changes in their order, and whatever it answers nothing else is changed, and a front of their children
+-- ran.
 pub record DoesChanges (roots : Roots) (changes : List Change) (old new : State) (result : Result Ran WorldError) : Type 0 where
   pub done : ForSome old.tree (λ tree. IfOk result (λ made. AreChanged roots changes old new made tree))
+  pub ran : ForSome old.tree (λ tree. RanFront (requests_of roots old.script changes tree) old new)
   pub cut_off : ForSome old.tree (IsCutOffNow roots old.script changes new.tree)
   -- what is soft now was soft, or is an area of theirs
   pub soft : AllByRecursion (λ area. IsOneArea area (areas_of changes ++ old.history.soft)) new.history.soft

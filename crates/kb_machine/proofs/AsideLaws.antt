@@ -28,6 +28,8 @@ use Rattle.kb_again.specs.Sparing.{IsSparing, AreSparing}
 use Rattle.kb_machine.specs.Stands.{Rests, OpensOneOf}
 use Rattle.kb_machine.specs.Aside.{is_aside, IsSameBut, IsAsideArea, LeftAside, IsOneArea, WorksAside}
 use Rattle.kb_machine.specs.Across.{Survives, LeavesStanding, DoesAcrossCrashes}
+use Rattle.kb_machine.specs.Behind.{LeavesBehindOf}
+use Rattle.kb_machine.proofs.BehindLaws.{front_none, behind_same, behind_since}
 use Rattle.kb_machine.proofs.RestLaws.{opens-none, rests_from, rests_bare, rests_spares, spared_public, spared_journal}
 
 -- below a root that is written
@@ -157,6 +159,15 @@ does_aside roots action old mid new before after value result formed w ran lasts
             (subst (λ script. Adds (OpensOneOf roots script (store ∷ stores)) mid.history new.history) lasts.script one.each_moment);
         end = one.end;
       };
+  behind = λ tree told rooted.
+      let now = w.tree tree told in
+      let store = public_tree roots tree in
+      let foreign = foreign_tree roots tree in
+      let kept = aside_foreign roots tree now.0 now.2 in
+      let P : Tree → Tree → Type 0 = λ s f. LeavesBehindOf roots (action s f) now.0 mid new in
+      let goes : P store foreign =
+      subst (λ f. P store f) kept (subst (λ s. P s (foreign_tree roots now.0)) (aside_public roots tree now.0 now.2) (d.behind now.0 now.1 (lasts.roots ∙ rooted))) in
+      behind_since roots (action store foreign) tree now.0 old mid new ran kept goes;
 }
 
 -- it isn't a refusal
@@ -170,9 +181,9 @@ stopped stop = Err stop
 
 -- what was done aside stopped, and so does the action
 pub aside_stops : {T : Type 0} (roots : Roots) (action : Action) (old new : State) (before after : Report) (stop : Stop) → IsUnrefused stop
-    → ((tree : Tree) → old.tree ≡ Some tree → IsFormed tree) → WorksAside roots old new → Lasts old new → HasCause Fault old new (stopped {T = T} stop)
+    → ((tree : Tree) → old.tree ≡ Some tree → IsFormed tree) → WorksAside roots old new → new.ran ≡ old.ran → Lasts old new → HasCause Fault old new (stopped {T = T} stop)
     → DoesAcrossCrashes roots action {T = Unit {0}} old new before after (Err stop)
-aside_stops {T} roots action old new before after stop unrefused formed w lasts cause = record {
+aside_stops {T} roots action old new before after stop unrefused formed w ran lasts cause = record {
   does = record {
     answers = λ tree told rooted. none stop unrefused tree;
     lasts = lasts;
@@ -182,6 +193,10 @@ aside_stops {T} roots action old new before after stop unrefused formed w lasts 
     each_moment = aside_adds roots old new tree told (formed tree told) rests w (action (public_tree roots tree) (foreign_tree roots tree)).after;
     end = left stop unrefused tree (aside_rests roots old new tree told (formed tree told) rests w);
   };
+  behind = λ tree told rooted.
+      let now = w.tree tree told in
+      let outcome = action (public_tree roots tree) (foreign_tree roots tree) in
+      behind_same roots outcome tree now.0 old new now.1 (aside_foreign roots tree now.0 now.2) (front_none outcome.requests old new ran);
 }
   where
     back : IsErrOf (stopped {T = Unit {0}} stop) Fault → IsErrOf (stopped {T = T} stop) Fault

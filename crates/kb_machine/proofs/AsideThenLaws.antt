@@ -158,7 +158,7 @@ pub edits_outside : (area : Area) (tree : Tree) (edits : List (Option Edit)) (q 
 edits_outside area tree [] q out = refl
 edits_outside area tree (edit ∷ edits) q out = edits_outside area (with_edit area tree edit) edits q out ∙ edit_outside area tree edit q out
 
-holds-reaches : (area : Area) (tree : Tree) (q : Path) → reaches area q ≡ false → holds area tree q ≡ false
+pub holds-reaches : (area : Area) (tree : Tree) (q : Path) → reaches area q ≡ false → holds area tree q ≡ false
 holds-reaches areas.Nothing tree q none = refl
 holds-reaches (areas.Under directory) tree q none = none
 holds-reaches (areas.Names directory names) tree q none = ap (λ b. b && not (is_dir (node_at tree q))) none

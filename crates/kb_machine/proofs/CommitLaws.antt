@@ -1,7 +1,8 @@
 -- An action that is one transaction.
-use Rattle.std.proofs.Common.{◌≡◌, ◌⊎◌, ℕ, List, [], ◌∷◌, ◌++◌, Some, None, refl, sym, ap, ◌∙◌, subst, inl, inr}
+use Rattle.std.proofs.Common.{◌≡◌, ◌⊎◌, ℕ, Bool, true, false, List, [], ◌∷◌, ◌++◌, Some, None, refl, sym, ap, ◌∙◌, subst, inl, inr}
 use Rattle.std.specs.Prelude.{Result, Ok, Err}
-use Rattle.kb_world.specs.Tree.{Tree}
+use Rattle.kb_world.specs.Path.{Path}
+use Rattle.kb_world.specs.Tree.{Tree, node_at}
 use Rattle.kb_world.specs.Public.{public_tree, foreign_tree}
 use Rattle.kb_world.specs.Script.{Script}
 use Rattle.kb_world.specs.Crash.{Adds, History}
@@ -18,13 +19,28 @@ use Rattle.kb_world.proofs.CallLaws.{cause_other}
 use Rattle.kb_machine.specs.Stands.{Rests, Stands, OpensOneOf, StandsOneOf}
 use Rattle.kb_machine.specs.Commits.{TurnsOver, Transacted, Commits, CommitLeaves, CommitSurvives, IsCommitted}
 use Rattle.kb_machine.specs.Across.{Survives, LeavesStanding, DoesAcrossCrashes, SaysSo}
+use Rattle.kb_machine.specs.Behind.{is_reached, LeavesBehind, LeavesBehindOf}
 use Rattle.kb_machine.proofs.AsideLaws.{IsUnrefused}
+use Rattle.kb_machine.proofs.BehindLaws.{never_shown}
 use Rattle.kb_machine.proofs.RestLaws.{opens-none}
 
 -- at each moment of a transaction a crash leaves one of its two stores
 pub turned_adds : (roots : Roots) (script : Script) (first second : Tree) (old new : History) → TurnsOver roots script first second old new → Adds (OpensOneOf roots script (first ∷ second ∷ [])) old new
 turned_adds roots script first second old new t = adds_wider _ (OpensOneOf roots script (first ∷ second ∷ [])) old new
     (λ image one. elim one [ inl early ↦ (first, inl refl, opens-none roots script image first early.bare early.public) | inr late ↦ (second, inr (inl refl), late) ]) (turns_adds _ _ old new t)
+
+-- what the transaction may touch is never foreign, but in the areas of its children
+pub behind_says : (roots : Roots) (action : Action) (made : Tree → Transacted) (line : List ℕ) (texts : List Reply → List ℕ) (tree : Tree) (old new : State)
+    → SaysSo roots action made line texts tree → LeavesBehind roots (made tree).requests (made tree).touched tree old new
+    → LeavesBehindOf roots (action (public_tree roots tree) (foreign_tree roots tree)) tree old new
+behind_says roots action made line texts tree old new says b =
+    subst (λ (outcome : Outcome). LeavesBehindOf roots outcome tree old new) (sym says.says)
+    (record { ran = b.ran; foreign = record { now = b.foreign.now; told = b.foreign.told; same = λ path out. by path out ((made tree).touched path) refl } })
+  where
+    by : (path : Path) → is_reached (made tree).requests path ≡ false → (touched : Bool) → (made tree).touched path ≡ touched
+        → node_at (foreign_tree roots b.foreign.now) path ≡ node_at (foreign_tree roots tree) path
+    by path out true e = never_shown roots b.foreign.now tree path (says.spares path e out)
+    by path out false e = b.foreign.same path e
 
 abbrev stopped : Stop → Result (Unit {0}) Stop
 stopped stop = Err stop
@@ -75,6 +91,7 @@ does_commit roots action made line texts old new before after replies says c out
         each_moment = turned_adds roots old.script store _ old.history new.history s.turns;
         end = s.leaves;
       });
+  behind = λ tree told rooted. behind_says roots action made line texts tree old new (says tree told rooted) (c.behind tree told);
 }
 
 -- a transaction that stopped
@@ -90,6 +107,7 @@ does_uncommitted roots action made line texts old new before after Fault says c 
     cause = record { later = c.cause.later; rose = λ failed. c.cause.rose refl; steady = c.cause.steady; never = λ told is failed. c.cause.never told is refl };
   };
   survives = λ tree told rooted rests. survived roots action made line texts old new tree (says tree told rooted) rests Fault tt (c.survives tree told rests);
+  behind = λ tree told rooted. behind_says roots action made line texts tree old new (says tree told rooted) (c.behind tree told);
 }
 does_uncommitted roots action made line texts old new before after NoMemory says c = record {
   does = record {
@@ -98,6 +116,7 @@ does_uncommitted roots action made line texts old new before after NoMemory says
     cause = cause_other old new (Err NoMemory) (Err NoMemory) c.cause (λ failed. let impossible : stopped NoMemory ≡ stopped Fault = failed in cc);
   };
   survives = λ tree told rooted rests. survived roots action made line texts old new tree (says tree told rooted) rests NoMemory tt (c.survives tree told rests);
+  behind = λ tree told rooted. behind_says roots action made line texts tree old new (says tree told rooted) (c.behind tree told);
 }
 
 -- it came about, and then memory ran out for what is said of it
@@ -118,4 +137,5 @@ does_untold roots action made line texts old new before after replies says c = r
         each_moment = turned_adds roots old.script store _ old.history new.history s.turns;
         end = (public_tree roots (made tree).tree, inr (inl refl), s.leaves.stands);
       });
+  behind = λ tree told rooted. behind_says roots action made line texts tree old new (says tree told rooted) (c.behind tree told);
 }

@@ -1,11 +1,11 @@
 -- An action that may be refused first.
-use Rattle.std.proofs.Common.{◌≡◌, ◌≤◌, ℕ, List, ◌++◌, Option, Some, None, refl, sym, ap, ◌∙◌, subst, arith}
+use Rattle.std.proofs.Common.{◌≡◌, ◌++◌, Option, Some, None, refl, sym, ap, ◌∙◌, subst}
 use Rattle.std.proofs.lemmas.List.{append-nil}
 use Rattle.std.specs.Prelude.{Result, Ok, Err}
 use Rattle.kb_world.specs.Tree.{Tree}
-use Rattle.kb_world.specs.State.{State, HasCause, Rose, Lasts, RanNone, Unchanged}
+use Rattle.kb_world.specs.State.{State}
 use Rattle.kb_world.specs.Public.{public_tree, foreign_tree}
-use Rattle.kb_machine.specs.Outcome.{Outcome, Action, refuse_if, unless, transaction, go_on, ◌then◌}
+use Rattle.kb_machine.specs.Outcome.{Outcome, Action, refuse_if, unless, go_on, ◌then◌}
 use Rattle.kb_world.specs.Read.{Decides}
 use Rattle.kb_machine.specs.Does.{CameAbout, Does, Answers}
 use Rattle.kb_world.specs.Layout.{united, whole_tree}

@@ -18,6 +18,7 @@ use Rattle.kb_machine.specs.Stands.{Rests, IsOneOf, OpensOneOf}
 use Rattle.kb_machine.specs.Across.{Survives, LeavesStanding, DoesAcrossCrashes}
 use Rattle.kb_machine.proofs.ThenLaws.{does_then}
 use Rattle.kb_machine.specs.Each.{each, Leads}
+use Rattle.kb_machine.proofs.BehindLaws.{behind_none, behind_cut}
 
 -- ---- texts alone
 
@@ -29,6 +30,7 @@ printed roots text state before after out err = record {
     cause = no_cause state tt;
   };
   survives = λ tree told rooted rests. record { each_moment = adds_none _ state.history state.history refl; end = rests };
+  behind = λ tree told rooted. behind_none roots (print text (public_tree roots tree) (foreign_tree roots tree)) tree state state told refl;
 }
 
 -- memory ran out for a text
@@ -40,6 +42,7 @@ unprinted roots action state before after = record {
     cause = record { later = omega arith; rose = λ failed. absurd (other failed); steady = λ is. is; never = λ told is failed. other failed };
   };
   survives = λ tree told rooted rests. record { each_moment = adds_none _ state.history state.history refl; end = (public_tree roots tree, inl refl, rests.stands) };
+  behind = λ tree told rooted. behind_none roots (action (public_tree roots tree) (foreign_tree roots tree)) tree state state told refl;
 }
   where
     gave : Stop → Result (Unit {0}) Stop
@@ -93,6 +96,9 @@ does_cut roots first second old new before after stop d = record {
             (λ image o. (o.0, among store o.0 outcome second o.1, o.2)) s.each_moment;
         end = by_end stop store outcome (d.does.answers tree told rooted) s.end;
       };
+  behind = λ tree told rooted.
+      let store = public_tree roots tree in
+      behind_cut roots store (first store (foreign_tree roots tree)) second tree old new (d.behind tree told rooted);
 }
   where
     by_answer : (stop : Stop) (store : Tree) (outcome : Outcome) → Answers {T = Unit {0}} roots store outcome (Err stop) old new before after → Answers {T = Unit {0}} roots store (go_on store outcome second) (Err stop) old new before after

@@ -17,6 +17,8 @@ use Rattle.kb_machine.specs.Stands.{Rests}
 use Rattle.kb_machine.specs.Across.{Survives, DoesAcrossCrashes}
 use Rattle.kb_machine.proofs.ThenLaws.{survives_then}
 use Rattle.kb_machine.specs.Each.{gathers}
+use Rattle.kb_machine.specs.Behind.{LeavesBehindOf}
+use Rattle.kb_machine.proofs.BehindLaws.{behind_then}
 
 came_on : (roots : Roots) (store : Tree) (first second : Outcome) (was due : Option Refusal) (old mid new : State) (before between after : Report)
     → CameAbout roots store first was old mid before between → CameAbout roots (last_of store first.after) second due mid new between after
@@ -72,4 +74,15 @@ does_gathered roots part next why old mid new before between after result a b = 
       (subst (λ (s : Tree). P s (foreign_tree roots came.tree.0)) came.tree.2.public_part (b.survives came.tree.0 came.tree.1 (a.does.lasts.roots ∙ rooted))) in
       subst (λ (e : Option Refusal). Survives roots store (joined first (next e last first.foreign)) old new result) (sym came.end)
       (survives_then roots store first (next (Some why) last first.foreign) old mid new result a.does.lasts.script one (goes stood.end));
+  behind = λ tree told rooted.
+      let store = public_tree roots tree in
+      let first = part store (foreign_tree roots tree) in
+      let came : CameAbout roots store first (Some why) old mid before between = a.does.answers tree told rooted in
+      let last = last_of store first.after in
+      let P : Tree → Tree → Type 0 = λ s f. LeavesBehindOf roots (next (Some why) s f) came.tree.0 mid new in
+      let goes : P last first.foreign =
+      subst (λ (f : Tree). P last f) came.tree.2.foreign_part
+      (subst (λ (s : Tree). P s (foreign_tree roots came.tree.0)) came.tree.2.public_part (b.behind came.tree.0 came.tree.1 (a.does.lasts.roots ∙ rooted))) in
+      subst (λ (e : Option Refusal). LeavesBehindOf roots (joined first (next e last first.foreign)) tree old new) (sym came.end)
+      (behind_then roots first (next (Some why) last first.foreign) tree came.tree.0 old mid new came.tree.1 came.ran (a.behind tree told rooted) goes);
 }

@@ -1,11 +1,11 @@
 -- A call that only looks, before an action or in place of it.
-use Rattle.std.proofs.Common.{◌≡◌, ℕ, List, [], ◌∷◌, ◌++◌, Option, Some, None, refl, sym, ap, ◌∙◌, subst, inl}
+use Rattle.std.proofs.Common.{◌≡◌, ℕ, List, [], ◌∷◌, ◌++◌, Option, Some, refl, sym, ap, ◌∙◌, subst, inl}
 use Rattle.std.specs.Prelude.{Result, Ok, Err}
 use Rattle.std.specs.Option.{ForSome}
 use Rattle.kb_world.specs.Crash.{LeftOf, Adds, History}
 use Rattle.kb_world.specs.Read.{Agrees, Decides, Gives, IsAnswer}
 use Rattle.kb_world.specs.Layout.{united, whole_tree}
-use Rattle.kb_machine.specs.Outcome.{Action, last_of, go_on, refuse_if, unless, by_answer, reads, warn, ◌then◌}
+use Rattle.kb_machine.specs.Outcome.{Outcome, Action, last_of, go_on, refuse_if, unless, by_answer, reads, warn, ◌then◌}
 use Rattle.kb_world.specs.Public.{public_tree, foreign_tree}
 use Rattle.kb_world.specs.State.{State, HasCause, Lasts, Unchanged}
 use Rattle.kb_world.specs.Tree.{Tree}
@@ -18,7 +18,9 @@ use Rattle.kb_world.proofs.CrashLaws.{adds_none}
 use Rattle.kb_machine.proofs.DoesLaws as decides
 use Rattle.kb_machine.proofs.OutcomeLaws as low
 use Rattle.kb_again.specs.Sparing.{AreSparing}
-use Rattle.kb_machine.specs.Across.{Survives, LeavesStanding, SurvivesAs, DoesAcrossCrashes}
+use Rattle.kb_machine.specs.Across.{Survives, LeavesStanding, SurvivesAs, LeavesBehindAs, DoesAcrossCrashes}
+use Rattle.kb_machine.specs.Behind.{LeavesBehindOf}
+use Rattle.kb_machine.proofs.BehindLaws.{behind_none, behind_since}
 use Rattle.kb_machine.specs.Opens.{IsReady, Opens, own_areas}
 use Rattle.kb_machine.specs.Stands.{Stands, Rests, OpensOneOf}
 
@@ -45,13 +47,13 @@ module _ (roots : Roots) (old mid : State) (same : Unchanged old mid) where
 
   -- it goes on as another action
   looked_on : (action next : Action) (new : State) (result : Result (Unit {0}) Stop)
-      → ((tree : Tree) → old.tree ≡ Some tree → (action (public_tree roots tree) (foreign_tree roots tree)).after ≡ (next (public_tree roots tree) (foreign_tree roots tree)).after)
+      → ((tree : Tree) → old.tree ≡ Some tree → action (public_tree roots tree) (foreign_tree roots tree) ≡ next (public_tree roots tree) (foreign_tree roots tree))
       → SurvivesAs roots next mid new result → SurvivesAs roots action old new result
-  looked_on action next new result stores goes tree told rooted rests =
+  looked_on action next new result outcomes goes tree told rooted rests =
       let store = public_tree roots tree in
       let foreign = foreign_tree roots tree in
       let two : Survives roots store (next store foreign) mid new result = goes tree (same.tree ∙ told) (same.ran_none.lasts.roots ∙ rooted) (looked_rests store rests) in
-      let is = sym (stores tree told) in
+      let is = ap (λ (outcome : Outcome). outcome.after) (sym (outcomes tree told)) in
       record {
         each_moment =
             subst (λ (h : History). Adds (OpensOneOf roots old.script (store ∷ (action store foreign).after)) h new.history) same.history
@@ -59,6 +61,18 @@ module _ (roots : Roots) (old mid : State) (same : Unchanged old mid) where
             (subst (λ after. Adds (OpensOneOf roots mid.script (store ∷ after)) mid.history new.history) is two.each_moment));
         end = subst (λ after. LeavesStanding roots store after result new) is two.end;
       }
+
+  behind_on : (action next : Action) (new : State)
+      → ((tree : Tree) → old.tree ≡ Some tree → action (public_tree roots tree) (foreign_tree roots tree) ≡ next (public_tree roots tree) (foreign_tree roots tree))
+      → LeavesBehindAs roots next mid new → LeavesBehindAs roots action old new
+  behind_on action next new outcomes goes tree told rooted =
+      let store = public_tree roots tree in
+      let foreign = foreign_tree roots tree in
+      subst (λ (outcome : Outcome). LeavesBehindOf roots outcome tree old new) (sym (outcomes tree told))
+      (behind_since roots (next store foreign) tree tree old mid new same.ran_none.ran refl (goes tree (same.tree ∙ told) (same.ran_none.lasts.roots ∙ rooted)))
+
+  behind_stop : (action : Action) → LeavesBehindAs roots action old mid
+  behind_stop action tree told rooted = behind_none roots (action (public_tree roots tree) (foreign_tree roots tree)) tree old mid (same.tree ∙ told) same.ran_none.ran
 
   -- it stops there
   looked_stop : (action : Action) (stop : Stop)
@@ -85,9 +99,6 @@ module _ (roots : Roots) (old mid : State) (same : Unchanged old mid) where
 unless_stops : (due : Tree → Option Refusal) (second : Action) (store foreign : Tree) (why : Refusal) → due (united store foreign) ≡ Some why → ((unless due then second) store foreign).after ≡ []
 unless_stops due second store foreign why is = ap (λ (o : Option Refusal). (go_on store (refuse_if o store foreign) second).after) is
 
-unless_goes : (due : Tree → Option Refusal) (second : Action) (store foreign : Tree) → due (united store foreign) ≡ None → ((unless due then second) store foreign).after ≡ (second store foreign).after
-unless_goes due second store foreign is = ap (λ (o : Option Refusal). (go_on store (refuse_if o store foreign) second).after) is
-
 pub refused : (roots : Roots) (read due : Tree → Option Refusal) (second : Action) (old mid : State) (report : Report) (stop : Stop)
     → ((tree : Tree) → read tree ≡ due (whole_tree roots tree)) → Decides read {T = Unit {0}} old mid (Err stop)
     → DoesAcrossCrashes roots (unless due then second) {T = Unit {0}} old mid report report (Err stop)
@@ -95,6 +106,7 @@ refused roots read due second old mid report stop same d = record {
   does = decides.does_refused roots read due second old mid report stop same d;
   survives = looked_stop roots old mid d.unchanged (unless due then second) stop (λ tree told why is.
       unless_stops due second (public_tree roots tree) (foreign_tree roots tree) why (sym (same tree) ∙ by tree told why is));
+  behind = behind_stop roots old mid d.unchanged (unless due then second);
 }
   where
     by : (tree : Tree) → old.tree ≡ Some tree → (why : Refusal) → stop ≡ Refused why → read tree ≡ Some why
@@ -105,9 +117,12 @@ pub passed : (roots : Roots) (read due : Tree → Option Refusal) (second : Acti
     → DoesAcrossCrashes roots (unless due then second) old new before after result
 passed roots read due second old mid new before after result same d e = record {
   does = decides.does_passed roots read due second old mid new before after result same d e.does;
-  survives = looked_on roots old mid d.unchanged (unless due then second) second new result
-      (λ tree told. unless_goes due second (public_tree roots tree) (foreign_tree roots tree) (sym (same tree) ∙ d.agrees tree told)) e.survives;
+  survives = looked_on roots old mid d.unchanged (unless due then second) second new result passes e.survives;
+  behind = behind_on roots old mid d.unchanged (unless due then second) second new passes e.behind;
 }
+  where
+    passes : (tree : Tree) → old.tree ≡ Some tree → (unless due then second) (public_tree roots tree) (foreign_tree roots tree) ≡ second (public_tree roots tree) (foreign_tree roots tree)
+    passes tree told = decides.unless_passed due second (public_tree roots tree) (foreign_tree roots tree) (sym (same tree) ∙ d.agrees tree told)
 
 -- ---- what is read says how it goes on
 
@@ -118,6 +133,7 @@ unread {A = A} roots read right next old mid report stop same g = record {
   does = low.does_unread {A = A} roots read right next old mid report stop same g;
   survives = looked_stop roots old mid g.unchanged (reads right next) stop (λ tree told why is.
       ap (λ r. (by_answer next r (public_tree roots tree) (foreign_tree roots tree)).after) (sym (same tree) ∙ by tree told why is));
+  behind = behind_stop roots old mid g.unchanged (reads right next);
 }
   where
     by : (tree : Tree) → old.tree ≡ Some tree → (why : Refusal) → stop ≡ Refused why → read tree ≡ Err why
@@ -128,9 +144,12 @@ pub read_on : {A : Type 0} (roots : Roots) (read right : Tree → Result A Refus
     → DoesAcrossCrashes roots (reads right next) old new before after result
 read_on {A = A} roots read right next value old mid new before after result same g e = record {
   does = low.does_read {A = A} roots read right next value old mid new before after result same g e.does;
-  survives = looked_on roots old mid g.unchanged (reads right next) (next value) new result
-      (λ tree told. ap (λ r. (by_answer next r (public_tree roots tree) (foreign_tree roots tree)).after) (sym (same tree) ∙ g.answers tree told)) e.survives;
+  survives = looked_on roots old mid g.unchanged (reads right next) (next value) new result goes e.survives;
+  behind = behind_on roots old mid g.unchanged (reads right next) (next value) new goes e.behind;
 }
+  where
+    goes : (tree : Tree) → old.tree ≡ Some tree → reads right next (public_tree roots tree) (foreign_tree roots tree) ≡ next value (public_tree roots tree) (foreign_tree roots tree)
+    goes tree told = ap (λ r. by_answer next r (public_tree roots tree) (foreign_tree roots tree)) (sym (same tree) ∙ g.answers tree told)
 
 -- it goes on with the whole that stands
 pub whole_on : (roots : Roots) (next : Tree → Action) (old new : State) (before after : Report) (result : Result (Unit {0}) Stop)
@@ -139,6 +158,7 @@ pub whole_on : (roots : Roots) (next : Tree → Action) (old new : State) (befor
 whole_on roots next old new before after result lasts cause d = record {
   does = low.does_whole roots next old new before after result lasts cause (λ tree told. (d tree told).does);
   survives = λ tree told. (d tree told).survives tree told;
+  behind = λ tree told. (d tree told).behind tree told;
 }
 
 -- ---- a text for standard error
@@ -148,4 +168,5 @@ pub warned : (roots : Roots) (text : List ℕ) (state : State) (before after : R
 warned roots text state before after out err = record {
   does = low.does_warn roots text state before after out err;
   survives = λ tree told rooted rests. record { each_moment = adds_none (OpensOneOf roots state.script (public_tree roots tree ∷ [])) state.history state.history refl; end = rests };
+  behind = λ tree told rooted. behind_none roots (warn text (public_tree roots tree) (foreign_tree roots tree)) tree state state told refl;
 }

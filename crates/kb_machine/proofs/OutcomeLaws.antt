@@ -30,6 +30,7 @@ use Rattle.kb_world.specs.declared.refusal.Refusal.{Refusal}
 use Rattle.kb_world.specs.declared.stop.Stop.{Stop}
 use Rattle.kb_world.specs.declared.stop.Stop.TheVariants.{Refused, Fault, NoMemory}
 use Rattle.kb_world.proofs.CallLaws.{cause_then, lasts_then, no_cause}
+use Rattle.kb_machine.proofs.BehindLaws.{front_none, front_all}
 use Rattle.kb_machine.proofs.DoesLaws.{answers_since}
 use Rattle.kb_world.proofs.LayoutLaws.{view-whole}
 
@@ -256,6 +257,7 @@ asks_of_run request old new reply none r = record {
     ran = is.ran;
   };
   tree = asked_tree request old new none (Ok reply) r;
+  ran = λ tree told. let is : IsReplied request old new reply tree = r.ends tree told in front_all (request ∷ []) old new is.ran;
   soft = asked_soft request old new none (Ok reply) r;
   moments = asked_moments request old new none (Ok reply) r;
   unrefused = λ refusal is. let impossible : Ok reply ≡ Err (Refused refusal) = is in cc;
@@ -272,6 +274,7 @@ pub asks_of_stop : (request : Request) (old new : State) (error : WorldError) �
 asks_of_stop request old new Failed none r = record {
   asked = tt;
   tree = asked_tree request old new none (Err Failed) r;
+  ran = λ tree told. front_all (request ∷ []) old new (r.ends tree told).1;
   soft = asked_soft request old new none (Err Failed) r;
   moments = asked_moments request old new none (Err Failed) r;
   unrefused = λ refusal is. let impossible : unanswered Fault ≡ unanswered (Refused refusal) = is in cc;
@@ -284,6 +287,7 @@ asks_of_stop request old new Failed none r = record {
 asks_of_stop request old new world.NoMemory none r = record {
   asked = tt;
   tree = asked_tree request old new none (Err world.NoMemory) r;
+  ran = λ tree told. elim (r.ends tree told).1 [ inl same ↦ front_none (request ∷ []) old new same | inr ran ↦ front_all (request ∷ []) old new ran ];
   soft = asked_soft request old new none (Err world.NoMemory) r;
   moments = asked_moments request old new none (Err world.NoMemory) r;
   unrefused = λ refusal is. let impossible : unanswered NoMemory ≡ unanswered (Refused refusal) = is in cc;

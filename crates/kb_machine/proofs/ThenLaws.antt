@@ -13,6 +13,8 @@ use Rattle.kb_world.specs.declared.stop.Stop.TheVariants.{Refused, Fault, NoMemo
 use Rattle.kb_machine.proofs.OutcomeLaws as low
 use Rattle.kb_machine.specs.Stands.{Rests, IsOneOf, OpensOneOf, StandsOneOf}
 use Rattle.kb_machine.specs.Across.{Survives, LeavesStanding, DoesAcrossCrashes}
+use Rattle.kb_machine.specs.Behind.{LeavesBehindOf}
+use Rattle.kb_machine.proofs.BehindLaws.{behind_then}
 use Rattle.kb_world.proofs.CrashLaws.{adds_then, adds_wider}
 
 one_of_first : (store other : Tree) (first second : List Tree) → IsOneOf store (other ∷ first) → IsOneOf store (other ∷ first ++ second)
@@ -66,4 +68,16 @@ does_then roots first second old mid new before between after result a b = recor
       let two : Survives roots last (second last outcome.foreign) mid new result = goes one.end in
       let Q : Outcome → Type 0 = λ whole. Survives roots store whole old new result in
       subst Q (sym (low.goes_on store outcome second came.end)) (survives_then roots store outcome (second last outcome.foreign) old mid new result a.does.lasts.script one two);
+  behind = λ tree told rooted.
+      let store = public_tree roots tree in
+      let outcome = first store (foreign_tree roots tree) in
+      let came = a.does.answers tree told rooted in
+      let last = last_of store outcome.after in
+      let P : Tree → Tree → Type 0 = λ s f. LeavesBehindOf roots (second s f) came.tree.0 mid new in
+      let goes : P last outcome.foreign =
+      subst (λ (f : Tree). P last f) came.tree.2.foreign_part
+      (subst (λ (s : Tree). P s (foreign_tree roots came.tree.0)) came.tree.2.public_part (b.behind came.tree.0 came.tree.1 (a.does.lasts.roots ∙ rooted))) in
+      let Q : Outcome → Type 0 = λ whole. LeavesBehindOf roots whole tree old new in
+      subst Q (sym (low.goes_on store outcome second came.end))
+      (behind_then roots outcome (second last outcome.foreign) tree came.tree.0 old mid new came.tree.1 came.ran (a.behind tree told rooted) goes);
 }

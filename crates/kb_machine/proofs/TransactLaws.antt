@@ -1,10 +1,11 @@
 -- A transaction, with a child behind it that may change nothing, is what an action says.
 use Rattle.std.proofs.Common.{◌≡◌, ℕ, Bool, true, false, cond, ◌&&◌, ◌||◌, not, List, [], ◌∷◌, ◌++◌, map, flat_map, Option, None, refl, sym, ap, ◌∙◌}
 use Rattle.std.proofs.lemmas.List.{append-nil}
+use Rattle.std.proofs.lemmas.List.Folds.{list_any-append}
 use Rattle.kb_world.specs.Path.{Path, is_under}
 use Rattle.kb_world.specs.Tree.{Tree, node_at, is_dir}
 use Rattle.kb_world.specs.TreeLaws.{same_tree, node_at-retain}
-use Rattle.kb_world.specs.Public.{intent_path, staging_path, is_foreign, is_private, is_public, public_tree, foreign_tree}
+use Rattle.kb_world.specs.Public.{IsNeverForeign, intent_path, staging_path, is_foreign, is_private, is_public, public_tree, foreign_tree}
 use Rattle.kb_world.specs.Script.{Script, answer, answer_in, tree_after}
 use Rattle.kb_world.specs.View.{is_own}
 use Rattle.kb_world.specs.Layout.{united}
@@ -17,17 +18,19 @@ use Rattle.kb_world.specs.declared.tree.Node.{Node}
 use Rattle.kb_world.proofs.LayoutLaws.{view-whole}
 use Rattle.kb_world.proofs.PublicLaws.{node_at-public_tree, node_at-foreign_tree}
 use Rattle.kb_machine.proofs.OutcomeLaws.{nothing_after}
+use Rattle.kb_again.specs.Sparing.{reaches}
 use Rattle.kb_changes.specs.Change.{do_change, done, request_at, requests_of, replies_of}
 use Rattle.kb_changes.specs.Groups.{runs_in}
 use Rattle.kb_changes.specs.Valid.{is_kept_out}
 use Rattle.kb_changes.specs.declared.change.Change.{Change}
 use Rattle.kb_changes.specs.declared.change.Change.TheVariants.{Dir, Put, Drop, DropDir, Wipe, Run}
 use Rattle.kb_machine.specs.Across.{SaysSo}
+use Rattle.kb_machine.specs.Behind.{may_touch, touched_by}
 use Rattle.kb_machine.specs.Commits.{cleaned, transacted}
 
 -- ---- what is kept out is private
 
-kept_private : (roots : Roots) (q : Path) → is_kept_out roots q ≡ true → is_private roots q ≡ true
+pub kept_private : (roots : Roots) (q : Path) → is_kept_out roots q ≡ true → is_private roots q ≡ true
 kept_private roots q h = by (is_under q (intent_path roots)) _ (is_under q (staging_path roots.dkms)) (is_under q (staging_path roots.src)) (is_under q (staging_path roots.modules)) (is_under q (staging_path roots.boot)) _ _ h
   where
     by : (i n d s m b p scratch : Bool) → (i || (d || (s || (m || (b || false))))) ≡ true → ((i || (n || (d || (s || (m || (b || (p || false))))))) || scratch) ≡ true
@@ -46,7 +49,7 @@ private_hidden roots q at own = by _ (is_private roots q) _ own
     by true b c h = ap (λ x. not x && not c) h
     by false b c h = refl
 
-private_unforeign : (roots : Roots) (q : Path) (at : Option Node) → is_private roots q ≡ true → is_foreign roots q at ≡ false
+pub private_unforeign : (roots : Roots) (q : Path) (at : Option Node) → is_private roots q ≡ true → is_foreign roots q at ≡ false
 private_unforeign roots q at own = by (is_public roots q at) (is_private roots q) own
   where
     by : (a b : Bool) → b ≡ true → (not a && not b) ≡ false
@@ -134,7 +137,8 @@ said_behind roots script (change ∷ front) back tree none =
 
 module _ (roots : Roots) (script : Script) (changes : List Change) (step : Tree → Tree) (line : List ℕ) (text : Reply → List ℕ) (tree : Tree)
     (none : runs_in changes ≡ []) (public : public_tree roots (done roots script changes tree) ≡ step (public_tree roots tree))
-    (foreign : foreign_tree roots (done roots script changes tree) ≡ foreign_tree roots tree) where
+    (foreign : foreign_tree roots (done roots script changes tree) ≡ foreign_tree roots tree)
+    (spares : (path : Path) → touched_by changes path ≡ true → IsNeverForeign roots path) where
   abbrev store : Tree
   store = public_tree roots tree
 
@@ -155,6 +159,7 @@ module _ (roots : Roots) (script : Script) (changes : List Change) (step : Tree 
         ∙ ap (λ t. outcome_with (public_tree roots (cleaned roots after_tree)) [] [] t) kept
         ∙ ap (λ requests. outcome_with (public_tree roots (cleaned roots after_tree)) requests [] (foreign_tree roots (cleaned roots after_tree))) (sym (none_asked roots script changes tree none))
         ∙ ap (λ replies. outcome_with (public_tree roots (cleaned roots after_tree)) (requests_of roots script changes tree) (flat_map text replies) (foreign_tree roots (cleaned roots after_tree))) (sym (none_said roots script changes tree none));
+    spares = λ path touched out. spares path touched;
   }
 
   module _ (request : Request) (idle : request.area ≡ areas.Nothing) (there : is_dir (node_at (done roots script changes tree) request.dir) ≡ true) where
@@ -182,6 +187,15 @@ module _ (roots : Roots) (script : Script) (changes : List Change) (step : Tree 
     own_none : (q : Path) → is_own request.area q ≡ false
     own_none q = ap (λ area. is_own area q) idle
 
+    -- the child touches nothing
+    touched_before : (path : Path) → touched_by all path ≡ true → touched_by changes path ≡ true
+    touched_before path touched = by (touched_by changes path)
+        (ap (λ b. touched_by changes path || (b || false)) (sym (ap (λ area. reaches area path) idle)) ∙ sym (list_any-append (may_touch path) changes (Run request ∷ [])) ∙ touched)
+      where
+        by : (b : Bool) → (b || (false || false)) ≡ true → b ≡ true
+        by true h = refl
+        by false h = h
+
     -- the child sees of the store and the foreign tree what it sees of the tree
     heard : (answer_in roots script request (united (step store) (foreign_tree roots tree))).reply ≡ reply
     heard =
@@ -205,4 +219,5 @@ module _ (roots : Roots) (script : Script) (changes : List Change) (step : Tree 
           ∙ ap (λ t. outcome_with store_after (request ∷ []) (flat_map text (reply ∷ [])) t) kept
           ∙ ap (λ requests. outcome_with store_after requests (flat_map text (reply ∷ [])) foreign_after) (sym asked)
           ∙ ap (λ replies. outcome_with store_after (requests_of roots script all tree) (flat_map text replies) foreign_after) (sym replied);
+      spares = λ path touched out. spares path (touched_before path touched);
     }

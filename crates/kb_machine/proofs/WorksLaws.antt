@@ -19,6 +19,8 @@ use Rattle.kb_machine.specs.Stands.{Rests, OpensOneOf}
 use Rattle.kb_machine.specs.Across.{Survives, LeavesStanding, DoesAcrossCrashes}
 use Rattle.kb_machine.specs.Works.{Work, work_only, by_result, works, IsWorked, Works}
 use Rattle.kb_machine.proofs.AsideLaws.{aside_public, aside_foreign, aside_rests, aside_adds}
+use Rattle.kb_machine.specs.Behind.{RanFront, LeavesBehindOf}
+use Rattle.kb_machine.proofs.BehindLaws.{front_all, behind_same, behind_first, behind_then}
 
 came_then : (roots : Roots) (store : Tree) (first second : Outcome) (due : Option Refusal) (old mid new : State) (before between after : Report) → first.after ≡ []
     → CameAbout roots store first None old mid before between → CameAbout roots store second due mid new between after
@@ -56,6 +58,19 @@ came_worked roots work right due tree now old mid before between told same kept 
   out = w.out ∙ sym (append-nil before.out);
   err = w.err;
 }
+
+-- whatever it answers, a front of its children ran
+behind_worked : {T : Type 0} (roots : Roots) (work : Work T) (next : T → Outcome) (tree now : Tree) (old new : State) → new.tree ≡ Some now
+    → foreign_tree roots now ≡ foreign_tree roots tree → RanFront work.requests old new
+    → LeavesBehindOf roots (by_result work.result work.requests work.err next (foreign_tree roots tree)) tree old new
+behind_worked {T} roots work next tree now old new told kept ran = by work.result
+  where
+    alone : (due : Option Refusal) → LeavesBehindOf roots (work_only work.requests work.err due (foreign_tree roots tree)) tree old new
+    alone due = behind_same roots (work_only work.requests work.err due (foreign_tree roots tree)) tree now old new told kept ran
+
+    by : (right : Result T Refusal) → LeavesBehindOf roots (by_result right work.requests work.err next (foreign_tree roots tree)) tree old new
+    by (Ok value) = behind_first roots (work_only work.requests work.err None (foreign_tree roots tree)) (next value) tree old new (alone None)
+    by (Err why) = alone (Some why)
 
 pub does_worked : {T : Type 0} (roots : Roots) (work : Tree → Tree → Work T) (next : T → Action) (value : T) (old mid new : State) (before between after : Report) (result : Result (Unit {0}) Stop)
     → ((tree : Tree) → old.tree ≡ Some tree → IsFormed tree) → Works roots work old mid before between (answered value)
@@ -97,6 +112,20 @@ does_worked roots work next value old mid new before between after result formed
             (subst (λ script. Adds (OpensOneOf roots script (store ∷ stores)) mid.history new.history) w.lasts.script one.each_moment);
         end = one.end;
       });
+  behind = λ tree told rooted.
+      let now = w.aside.tree tree told in
+      let store = public_tree roots tree in
+      let foreign = foreign_tree roots tree in
+      let kept = aside_foreign roots tree now.0 now.2 in
+      let W = work store foreign in
+      let is : IsWorked W (Ok value) old mid before between = w.answers tree told rooted in
+      let first = work_only W.requests W.err None foreign in
+      let P : Tree → Tree → Type 0 = λ s f. LeavesBehindOf roots (next value s f) now.0 mid new in
+      let goes : P store foreign =
+      subst (λ f. P store f) kept (subst (λ s. P s (foreign_tree roots now.0)) (aside_public roots tree now.0 now.2) (d.behind now.0 now.1 (w.lasts.roots ∙ rooted))) in
+      subst (λ r. LeavesBehindOf roots (by_result r W.requests W.err (λ v. next v store foreign) foreign) tree old new) (sym is.result)
+      (behind_then roots first (next value store foreign) tree now.0 old mid new now.1 is.ran
+      (behind_same roots first tree now.0 old mid now.1 kept (front_all W.requests old mid is.ran)) goes);
 }
 
 -- work that stopped
@@ -113,6 +142,11 @@ does_unworked {T} roots work next old new before after stop formed w = record {
     each_moment = aside_adds roots old new tree told (formed tree told) rests w.aside (works work next (public_tree roots tree) (foreign_tree roots tree)).after;
     end = end stop w tree told rooted (aside_rests roots old new tree told (formed tree told) rests w.aside);
   };
+  behind = λ tree told rooted.
+      let now = w.aside.tree tree told in
+      let store = public_tree roots tree in
+      let foreign = foreign_tree roots tree in
+      behind_worked roots (work store foreign) (λ value. next value store foreign) tree now.0 old new now.1 (aside_foreign roots tree now.0 now.2) (w.ran tree told rooted);
 }
   where
     back : IsErrOf (stopped {T = Unit {0}} stop) Fault → IsErrOf (stopped {T = T} stop) Fault

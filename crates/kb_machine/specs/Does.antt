@@ -1,10 +1,10 @@
 -- What a call above the world does, told by definitions over trees. This project's own.
-use Rattle.std.specs.Prelude.{◌≡◌, ◌⊎◌, [], ◌∷◌, ◌++◌, IfOk, Option, Some, None, Result, Ok, Err, option_map, OnOk, IsErrOf}
+use Rattle.std.specs.Prelude.{◌≡◌, ◌⊎◌, [], ◌∷◌, ◌++◌, IfOk, Option, Some, None, Result, Ok, Err, IsErrOf}
 use Rattle.std.specs.Option.{ForSome}
 use Rattle.kb_world.specs.Tree.{Tree}
 use Rattle.kb_world.specs.Public.{public_tree, foreign_tree}
 use Rattle.kb_world.specs.Crash.{LeftOf, Adds}
-use Rattle.kb_world.specs.State.{State, HasCause, Lasts, RanNone, Unchanged, IsGiven}
+use Rattle.kb_world.specs.State.{State, HasCause, Lasts, IsGiven}
 use Rattle.kb_machine.specs.Behind.{RanFront}
 use Rattle.kb_machine.specs.Outcome.{Outcome, Action, last_of}
 use Rattle.kb_world.specs.Script.{answer_in}

@@ -1,10 +1,12 @@
 pub mod Across
 pub mod Aside
 pub mod Behind
+pub mod Child
 pub mod Commits
 pub mod Does
 pub mod Each
 pub mod Opens
 pub mod Outcome
+pub mod Repeat
 pub mod Stands
 pub mod Works

@@ -1,5 +1,6 @@
 pub mod BootLaws
 pub mod ReadyLaws
+pub mod RepeatLaws
 pub mod RunLaws
 pub mod ServeLaws
 pub mod SettingLaws

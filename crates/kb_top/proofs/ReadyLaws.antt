@@ -1,5 +1,5 @@
 -- What a recovery leaves is the tree that is ready, and the call goes on from there.
-use Rattle.std.proofs.Common.{◌≡◌, true, false, cond, not, ◌||◌, List, [], ◌∷◌, ◌++◌, Option, Some, None, is_some, refl, sym, ap, ◌∙◌, subst, inl, append_assoc}
+use Rattle.std.proofs.Common.{◌≡◌, Bool, true, false, cond, not, ◌||◌, List, [], ◌∷◌, ◌++◌, Option, Some, None, is_some, refl, sym, ap, ◌∙◌, subst, inl, inr, append_assoc}
 use Rattle.std.specs.Prelude.{Result, Ok, Err}
 use Rattle.std.specs.List.{list_any}
 use Rattle.std.specs.Option.{ForSome}
@@ -8,13 +8,14 @@ use Rattle.kb_world.specs.Crash.{LeftOf, Adds}
 use Rattle.kb_machine.specs.Does.{Answers}
 use Rattle.kb_machine.specs.Outcome.{Outcome}
 use Rattle.kb_world.specs.Public.{intent_path, staging_path, public_tree, foreign_tree}
-use Rattle.kb_world.specs.Path.{is_under}
+use Rattle.kb_world.specs.Path.{Path, is_under}
 use Rattle.kb_world.specs.Script.{Script}
 use Rattle.kb_world.specs.State.{State, HasCause, Lasts}
 use Rattle.kb_world.specs.Tree.{Tree, node_at, file_bytes, IsFormed}
 use Rattle.kb_world.specs.TreeLaws.{node_at-retain}
 use Rattle.kb_world.specs.declared.job.Host.{Host}
 use Rattle.kb_world.specs.declared.job.Report.{Report}
+use Rattle.kb_world.specs.declared.refusal.Refusal.{Refusal}
 use Rattle.kb_world.specs.declared.refusal.Refusal.TheVariants as refusal
 use Rattle.kb_world.specs.declared.child.Request.{Request}
 use Rattle.kb_world.specs.declared.roots.Roots.{Roots}
@@ -32,17 +33,20 @@ use Rattle.kb_changes.specs.declared.change.Intent.{Intent}
 use Rattle.kb_changes.specs.declared.change.Recovered.{Recovered}
 use Rattle.kb_journal.proofs.IntentLaws.{one_journal}
 use Rattle.kb_machine.specs.Across.{Survives, LeavesStanding, DoesAcrossCrashes}
+use Rattle.kb_machine.specs.Behind.{is_reached, LeavesBehind, LeavesBehindOf}
 use Rattle.kb_machine.specs.Commits.{cleaned}
 use Rattle.kb_machine.specs.Opens.{IsReady, at_rest, recovers, Opens}
 use Rattle.kb_machine.specs.Stands.{Stands, Rests, OpensOneOf}
+use Rattle.kb_machine.proofs.BehindLaws.{front_none, front_then, front_first, keeps_same, keeps_then, keeps_wider, kept_at, unreached_second}
 use Rattle.kb_machine.proofs.RestLaws.{ready_at_rest, rests_public}
 use Rattle.kb_machine.proofs.TransactLaws.{cleaned_public, cleaned_foreign}
 use Rattle.kb_walk.proofs.WipeCalls.{HasFormedTree}
 use Rattle.kb_intent.specs.Finish.{HasJournal, KeepsOpening}
 use Rattle.kb_intent.specs.Recover.{FoundJournal, HasDamagedJournal, Recovers}
+use Rattle.kb_words.specs.Reading.{reading}
 use Rattle.kb_words.specs.Words.{Word}
 use Rattle.kb_top.specs.Machine.{journal_words, requests_found, behind, machine, outcome_of, damaged_outcome}
-use Rattle.kb_top.specs.Serve.{Serves}
+use Rattle.kb_top.specs.Serve.{Serves, LeavesBehindAll, touched_by_found, RefusesUnread}
 use Rattle.kb_top.specs.Telling.{words_found}
 
 some_same : {T : Type 0} → (a b : T) → Some a ≡ Some b → a ≡ b
@@ -135,6 +139,24 @@ left_bare roots old mid said r now told = let was = was_told old.tree mid.tree n
         let ended : Tree = done roots old.script f.intent.changes was in
         ap (λ t. node_at t (intent_path roots)) (some_same now (cleaned roots ended) (sym told ∙ f.committed.tree)) ∙ cleaned_bare roots ended
 
+-- ---- what the recovery left behind, whatever it answered
+
+recovered_behind : (roots : Roots) (old new : State) (result : Result (Option Recovered) Stop) (tree ready : Tree) (found : Option Intent) → Recovers roots old new result → old.tree ≡ Some tree
+    → IsReady roots old.script tree ready found → LeavesBehind roots (requests_found roots old.script found tree) (touched_by_found found) tree old new
+recovered_behind roots old new result tree ready found r told (at_rest none is nothing) =
+    let same = r.at_rest tree told none in
+    record {
+      ran = front_none (requests_found roots old.script found tree) old new same.ran_none.ran;
+      foreign = keeps_same roots (touched_by_found found) tree tree new (same.tree ∙ told) refl;
+    }
+recovered_behind roots old new result tree ready found r told (recovers bytes exec intent stands text is something) =
+    subst (λ f. LeavesBehind roots (requests_found roots old.script f tree) (touched_by_found f) tree old new) (sym something)
+    (r.behind tree told intent (record { bytes = bytes; exec = exec; stands = stands; journal = text }))
+
+unreached : (a b : Bool) → (a || b) ≡ false → (a ≡ false) × (b ≡ false)
+unreached true b e = let impossible : true ≡ false = e in absurd (cc)
+unreached false b e = (refl, e)
+
 -- what came about behind these children
 answers_behind : (roots : Roots) (store : Tree) (requests : List Request) (outcome : Outcome) (old mid new : State) (before after : Report) (result : Result (Unit {0}) Stop) → mid.ran ≡ old.ran ++ requests
     → Answers roots store outcome result mid new before after → Answers roots store (behind requests outcome) result old new before after
@@ -159,7 +181,8 @@ answers_behind roots store requests outcome old mid new before after (Err NoMemo
 
 module _ (host : Host) (words : List Word) (old mid new : State) (said : Option Recovered) (before after : Report) (result : Result (Unit {0}) Stop)
     (rooted : ForSome old.tree (λ tree. old.roots ≡ host.roots)) (formed : HasFormedTree mid) (r : Recovers host.roots old mid (Ok said))
-    (d : DoesAcrossCrashes host.roots (machine host mid.script words (words_found said)) mid new before after result) where
+    (d : DoesAcrossCrashes host.roots (machine host mid.script words (words_found said)) mid new before after result)
+    (u : (why : Refusal) → reading words ≡ Err why → RefusesUnread host.roots why result) where
   module _ (tree ready : Tree) (found : Option Intent) (told : old.tree ≡ Some tree) (is : IsReady host.roots old.script tree ready found) where
     abbrev there : IsReadied host.roots old mid tree ready found said
     there = readied host.roots old mid tree ready found said told is (r.found tree told)
@@ -195,6 +218,20 @@ module _ (host : Host) (words : List Word) (old mid new : State) (said : Option 
           end = two.end;
         }
 
+    left_behind : LeavesBehindAll host.roots (outcome_of host old.script words tree ready found) found tree old new
+    left_behind =
+        let requests = requests_found host.roots old.script found tree in
+        let may : Path → Bool = λ path. is_reached (requests ++ right.requests) path || touched_by_found found path in
+        let first = recovered_behind host.roots old mid (Ok said) tree ready found r told is in
+        let second : LeavesBehindOf host.roots right there.now mid new = subst (λ o. LeavesBehindOf host.roots o there.now mid new) same_outcome (d.behind there.now there.told roots_there) in
+        record {
+          ran = front_then requests right.requests old mid new there.ran second.ran;
+          foreign = keeps_then host.roots may tree there.now new
+              (λ path out. kept_at host.roots (touched_by_found found) tree there.now mid there.told first.foreign path (unreached (is_reached (requests ++ right.requests) path) (touched_by_found found path) out).1)
+              (keeps_wider host.roots (is_reached right.requests) may there.now new
+              (λ path out. unreached_second requests right.requests path (unreached (is_reached (requests ++ right.requests) path) (touched_by_found found path) out).0) second.foreign);
+        }
+
   undamaged : (tree : Tree) → old.tree ≡ Some tree → HasDamagedJournal host.roots tree → ⊥
   undamaged tree told damage = by said (r.found tree told)
     where
@@ -208,6 +245,8 @@ module _ (host : Host) (words : List Word) (old mid new : State) (said : Option 
     refused = λ tree told damage. absurd (undamaged tree told damage);
     damaged = λ tree told damage. absurd (undamaged tree told damage);
     survives = λ tree told ready found is store stands. survived tree ready found told is store stands;
+    behind = λ tree told ready found is. left_behind tree ready found told is;
+    unread = u;
     lasts = lasts_then old mid new r.lasts d.does.lasts;
     cause = cause_then Fault old mid new (Ok said) result r.lasts.told r.cause d.does.cause;
   }
@@ -240,6 +279,8 @@ serves_stopped host words old new report stop r = record {
     each_moment = adds_wider (λ image. Opens host.roots old.script image store) _ old.history new.history (λ image o. (store, inl refl, o)) (r.survives tree told store stands).each_moment;
     end = left stop tree ready found told is store (r.survives tree told store stands).stands r;
   };
+  behind = λ tree told ready found is. left_behind tree ready found told is;
+  unread = λ why read. unread stop why r;
   lasts = r.lasts;
   cause = stop_cause old new stop r.cause;
 }
@@ -255,6 +296,23 @@ serves_stopped host words old new report stop r = record {
     left (Refused why) tree ready found told is store stands r = absurd (never_ready host.roots old.script tree ready found ((r.refused why refl).damaged tree told) is)
     left Fault tree ready found told is store stands r = (store, inl refl, stands)
     left NoMemory tree ready found told is store stands r = (store, inl refl, stands)
+
+    left_behind : (tree ready : Tree) (found : Option Intent) → old.tree ≡ Some tree → IsReady host.roots old.script tree ready found
+        → LeavesBehindAll host.roots (outcome_of host old.script words tree ready found) found tree old new
+    left_behind tree ready found told is =
+        let requests = requests_found host.roots old.script found tree in
+        let more : List Request = (machine host old.script words (journal_words found) (public_tree host.roots ready) (foreign_tree host.roots ready)).requests in
+        let first = recovered_behind host.roots old new (Err stop) tree ready found r told is in
+        record {
+          ran = front_first requests more old new first.ran;
+          foreign = keeps_wider host.roots (touched_by_found found) (λ path. is_reached (requests ++ more) path || touched_by_found found path) tree new
+              (λ path out. (unreached (is_reached (requests ++ more) path) (touched_by_found found path) out).1) first.foreign;
+        }
+
+    unread : (s : Stop) (why : Refusal) → Recovers host.roots old new (Err s) → RefusesUnread host.roots why (Err s)
+    unread (Refused due) why r = inr (r.refused due refl).path
+    unread Fault why r = tt
+    unread NoMemory why r = tt
 
     refused : (s : Stop) (tree : Tree) → old.tree ≡ Some tree → HasDamagedJournal host.roots tree → Recovers host.roots old new (Err s)
         → Answers {T = Unit {0}} host.roots (public_tree host.roots tree) (damaged_outcome host.roots tree) (Err s) old new report report

@@ -5,7 +5,7 @@ use Rattle.kb_world.specs.Tree.{Tree}
 use Rattle.kb_world.specs.State.{State}
 use Rattle.kb_world.specs.Crash.{IsImageOfOne, LeftOf}
 use Rattle.kb_world.specs.SinkState.{SinkState}
-use Rattle.kb_world.specs.Public.{public_tree}
+use Rattle.kb_world.specs.Public.{intent_path, public_tree}
 use Rattle.kb_world.specs.Script.{Script}
 use Rattle.kb_world.specs.Refusal.{message_of, fault_line, no_memory_line}
 use Rattle.kb_machine.specs.Outcome.{Outcome, last_of}
@@ -14,6 +14,7 @@ use Rattle.kb_world.specs.declared.roots.Roots.{Roots}
 use Rattle.kb_world.specs.declared.job.Host.{Host}
 use Rattle.kb_world.specs.declared.job.Report.{Report}
 use Rattle.kb_world.specs.declared.refusal.Refusal.{Refusal}
+use Rattle.kb_world.specs.declared.refusal.Refusal.TheVariants as refusal
 use Rattle.kb_world.specs.declared.stop.Stop.{Stop}
 use Rattle.kb_world.specs.declared.stop.Stop.TheVariants.{Refused, Fault, NoMemory}
 use Rattle.kb_top.specs.declared.end.End.{End}
@@ -22,12 +23,13 @@ use Rattle.kb_world.proofs.CrashLaws.{moments_since-added}
 use Rattle.kb_world.proofs.CallLaws.{unchanged_none}
 use Rattle.std.proofs.lemmas.List.{append-nil}
 use Rattle.kb_machine.specs.Across.{Survives, LeavesStanding}
+use Rattle.kb_machine.proofs.BehindLaws.{front_none, keeps_same}
 use Rattle.kb_machine.specs.Opens.{Opens}
 use Rattle.kb_machine.specs.Stands.{Stands, Rests, IsOneOf, OpensOneOf, StandsOneOf}
 use Rattle.kb_words.specs.Words.{Word}
 use Rattle.kb_top.specs.Machine.{outcome_of, damaged_outcome}
-use Rattle.kb_top.specs.Serve.{Serves, ForReady, ForDamaged}
-use Rattle.kb_top.specs.Run.{Outside, RunsCommand, RunSurvives, LeavesAtEnd, IsEndOf, IsGivenUp, IsDone, WroteFront, Wrote, WroteNothing, err_text, with_line}
+use Rattle.kb_top.specs.Serve.{Serves, ForReady, ForDamaged, RefusesUnread}
+use Rattle.kb_top.specs.Run.{Outside, RunsCommand, EndsUnread, RunSurvives, LeavesAtEnd, IsEndOf, IsGivenUp, IsDone, WroteFront, Wrote, WroteNothing, err_text, with_line}
 use Rattle.kb_top.specs.Tell.{Sinks, Tells, TellsAs, FinishesAs, SinkFailed, SaysFront, with_message}
 
 -- the end of a command that is due to be refused so, or not
@@ -123,6 +125,28 @@ tells_no_setting report old new result (Err Fault) told =
 tells_no_setting report old new result (Err NoMemory) told =
     (λ e. let impossible : end.NoMemory ≡ end.BadRoot = sym told.0 ∙ e in cc, λ e. let impossible : end.NoMemory ≡ end.BadBoot = sym told.0 ∙ e in cc)
 
+-- ---- words that are no command line
+
+unread_finished : (roots : Roots) (why due : Refusal) (report : Report) (old new : Sinks) (result : End) → (due ≡ why) ⊎ (due ≡ refusal.Damaged (intent_path roots))
+    → FinishesAs (end.Refused due) report old new result → EndsUnread roots why result
+unread_finished roots why due report old new end.Done one f = let impossible : end.Refused due ≡ end.Done = f.0 in absurd (cc)
+unread_finished roots why due report old new (end.Refused other) one f =
+    let ends : end.Refused due ≡ end.Refused other = f.0 in
+    let same : due ≡ other = cc in
+    subst (λ w. (w ≡ why) ⊎ (w ≡ refusal.Damaged (intent_path roots))) same one
+unread_finished roots why due report old new end.SinkFault one f = tt
+unread_finished roots why due report old new end.NoMemory one f = tt
+unread_finished roots why due report old new end.Fault one f = absurd f
+unread_finished roots why due report old new end.BadRoot one f = absurd f
+unread_finished roots why due report old new end.BadBoot one f = absurd f
+
+ends_unread : (roots : Roots) (why : Refusal) (report : Report) (old new : Sinks) (result : End) (answer : Result (Unit {0}) Stop) → TellsAs answer report old new result → RefusesUnread roots why answer
+    → EndsUnread roots why result
+ends_unread roots why report old new result (Ok u) told one = absurd one
+ends_unread roots why report old new result (Err (Refused due)) told one = unread_finished roots why due (with_message report due) old new result one told
+ends_unread roots why report old new result (Err Fault) told one = subst (EndsUnread roots why) (sym told.0) tt
+ends_unread roots why report old new result (Err NoMemory) told one = subst (EndsUnread roots why) (sym told.0) tt
+
 -- ---- what a crash leaves
 
 last_is_one : (store : Tree) (after : List Tree) → IsOneOf (last_of store after) (store ∷ after)
@@ -198,6 +222,8 @@ runs host words old_world new_world old new report answer result s t =
       damaged = s.damaged;
       survives = λ tree told ready found is store stands.
           run_survives host.roots store (outcome_of host old_world.script words tree ready found) old_world new_world old new report answer result s.lasts.script t.ends (s.survives tree told ready found is store stands);
+      behind = s.behind;
+      unread = λ why read. ends_unread host.roots why report old new result answer t.ends (s.unread why read);
       fault = λ is. let f = tells_fault report old new result answer t.ends is in record { rose = s.cause.rose f.0; out = f.1; err = f.2 };
       sink_fault = λ is. (tells_sink report old new result answer t.ends is).rose;
       world_keeps = record { steady = s.cause.steady; faultless = λ told steady is. s.cause.never told steady (tells_fault report old new result answer t.ends is).0 };
@@ -228,6 +254,8 @@ runs_wanting host words world out old_err new_err says = record {
   refused = λ tree told damage. record { out = inl refl; err = says.front };
   damaged = λ tree told damage. unchanged_none world;
   survives = λ tree told ready found is store stands. stays_standing host.roots store (outcome_of host world.script words tree ready found) world stands;
+  behind = λ tree told ready found is. record { ran = front_none _ world world refl; foreign = keeps_same host.roots _ tree tree world told refl };
+  unread = λ why read. tt;
   fault = λ is. let impossible : end.NoMemory ≡ end.Fault = is in cc;
   sink_fault = λ is. let impossible : end.NoMemory ≡ end.SinkFault = is in cc;
   world_keeps = record { steady = λ is. is; faultless = λ told steady is. let impossible : end.NoMemory ≡ end.Fault = is in cc };

@@ -1,5 +1,5 @@
 -- What a command needs is public, and what it does is the machine's.
-use Rattle.std.proofs.Common.{◌≡◌, ℕ, Bool, true, false, cond, List, [], Option, Some, None, refl, sym, ap, ◌∙◌, subst, arith}
+use Rattle.std.proofs.Common.{◌≡◌, ℕ, Bool, true, false, cond, List, [], Option, Some, None, refl, sym, ap, ◌∙◌, subst, inl, arith}
 use Rattle.std.specs.Prelude.{Result, Ok, Err, codes}
 use Rattle.std.specs.Option.{option_or}
 use Rattle.std.specs.Cmp.Derive.{both_true}
@@ -25,6 +25,7 @@ use Rattle.kb_world.proofs.LayoutLaws.{whole_shown, public_whole}
 use Rattle.kb_world.proofs.CrashLaws.{adds_none}
 use Rattle.kb_machine.proofs.OutcomeLaws.{stays_refused}
 use Rattle.kb_machine.specs.Across.{DoesAcrossCrashes}
+use Rattle.kb_machine.proofs.BehindLaws.{behind_none}
 use Rattle.kb_machine.proofs.EachLaws.{printed, unprinted}
 use Rattle.kb_machine.proofs.LookLaws.{warned}
 use Rattle.kb_machine.proofs.ThenLaws.{does_then}
@@ -35,6 +36,7 @@ use Rattle.kb_words.specs.declared.command.Command.{Command}
 use Rattle.kb_words.specs.Words.{Word}
 use Rattle.kb_words.specs.Reading.{reading}
 use Rattle.kb_top.specs.Machine.{known_kernel, known_arch, known_host, no_root, no_roots_of_add, recovery_printed, recovery_warned, is_recovery, telling, perform, perform_read, machine}
+use Rattle.kb_top.specs.Serve.{RefusesUnread}
 use Rattle.kb_top.specs.Telling.{told_to}
 
 dkms_public : (roots : Roots) → AreApart roots → IsAlwaysPublic roots roots.dkms
@@ -119,6 +121,7 @@ refused_so roots state report why = record {
     cause = record { later = omega arith; rose = λ failed. absurd (no_fault failed); steady = λ is. is; never = λ told is failed. no_fault failed };
   };
   survives = λ tree told rooted rests. record { each_moment = adds_none _ state.history state.history refl; end = rests };
+  behind = λ tree told rooted. behind_none roots _ tree state state told refl;
 }
   where
     stopped : Stop → Result (Unit {0}) Stop
@@ -140,6 +143,16 @@ words_unread host words found state before after (Refused why) is read =
     (does_then host.roots (telling found false) (refuse_if (Some why)) state state state before after after (Err (Refused why)) (told_so host.roots found false state before after is) (refused_so host.roots state after why))
 words_unread host words found state before after Fault is read = absurd read
 words_unread host words found state before after NoMemory is read = unprinted host.roots (machine host state.script words found) state before after
+
+-- they are refused so, or the call gave up
+pub unread_refused : (roots : Roots) (words : List Word) (stop : Stop) → IsRead {T = Command} (Err stop) (reading words) → (why : Refusal) → reading words ≡ Err why → RefusesUnread roots why (Err stop)
+unread_refused roots words (Refused due) is why read = inl (let same : ◌≡◌ {A = Result Command Refusal} (Err due) (Err why) = sym is ∙ read in cc)
+unread_refused roots words Fault is why read = absurd is
+unread_refused roots words NoMemory is why read = tt
+
+pub never_unread : (roots : Roots) (words : List Word) (it : Command) (result : Result (Unit {0}) Stop) → IsRead {T = Command} (Ok it) (reading words) → (why : Refusal) → reading words ≡ Err why
+    → RefusesUnread roots why result
+never_unread roots words it result is why read = let impossible : ◌≡◌ {A = Result Command Refusal} (Ok it) (Err why) = sym is ∙ read in absurd (cc)
 
 -- they are one, and it was done
 pub words_done : (host : Host) (words : List Word) (found : Option (List Word)) (it : Command) (old new : State) (before between after : Report) (result : Result (Unit {0}) Stop)

@@ -1,5 +1,6 @@
 pub mod Adding
 pub mod Machine
+pub mod Repeat
 pub mod Run
 pub mod Serve
 pub mod Setting

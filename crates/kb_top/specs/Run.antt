@@ -1,7 +1,7 @@
 -- What the top call does to the world and to its two sinks. This project's own.
-use Rattle.std.specs.Prelude.{◌≡◌, ◌⊎◌, ℕ, ◌≤◌, List, ◌∷◌, ◌++◌, take, Option, Some, None, is_some, IsTrue}
+use Rattle.std.specs.Prelude.{◌≡◌, ◌⊎◌, ℕ, ◌≤◌, List, ◌∷◌, ◌++◌, take, Option, Some, None, is_some, IsTrue, Err}
 use Rattle.kb_world.specs.Tree.{Tree}
-use Rattle.kb_world.specs.Public.{public_tree}
+use Rattle.kb_world.specs.Public.{intent_path, public_tree}
 use Rattle.kb_world.specs.State.{State, Rose, Lasts, LeftSince, Unchanged}
 use Rattle.kb_world.specs.SinkState.{SinkState, grown}
 use Rattle.kb_world.specs.Refusal.{message_of, number_of, fault_line, no_memory_line}
@@ -10,7 +10,9 @@ use Rattle.kb_machine.specs.Does.{IsTreeOf}
 use Rattle.kb_world.specs.declared.roots.Roots.{Roots}
 use Rattle.kb_world.specs.declared.job.Host.{Host}
 use Rattle.kb_world.specs.declared.refusal.Refusal.{Refusal}
+use Rattle.kb_world.specs.declared.refusal.Refusal.TheVariants as refusal
 use Rattle.kb_machine.specs.Stands.{Stands, Rests, OpensOneOf, StandsOneOf}
+use Rattle.kb_words.specs.Reading.{reading}
 use Rattle.kb_words.specs.Words.{Word}
 use Rattle.kb_top.specs.declared.end.End.{End}
 use Rattle.kb_top.specs.declared.end.End.TheVariants as end
@@ -97,6 +99,16 @@ LeavesAtEnd roots store after new end.Fault = StandsOneOf roots (store ∷ after
 LeavesAtEnd roots store after new end.BadRoot = ⊥
 LeavesAtEnd roots store after new end.BadBoot = ⊥
 
+-- where the words are no command line: they are refused so, or what stands at the journal's path is, or the call gave up
+abbrev pub EndsUnread : Roots → Refusal → End → Type 0
+EndsUnread roots why end.Done = ⊥
+EndsUnread roots why (end.Refused due) = (due ≡ why) ⊎ (due ≡ refusal.Damaged (intent_path roots))
+EndsUnread roots why end.SinkFault = Unit {0}
+EndsUnread roots why end.NoMemory = Unit {0}
+EndsUnread roots why end.Fault = Unit {0}
+EndsUnread roots why end.BadRoot = ⊥
+EndsUnread roots why end.BadBoot = ⊥
+
 -- Whatever a crash since the start may leave opens one of the stores.
 pub record RunSurvives (roots : Roots) (store : Tree) (outcome : Outcome) (old new : State) (result : End) : Type 0 where
   pub opens : (image : Tree) → LeftSince old new image → OpensOneOf roots old.script (store ∷ outcome.after) image
@@ -139,6 +151,8 @@ pub record RunsCommand (host : Host) (words : List Word) (old new : Outside) (re
   -- whatever it answers, it leaves no more behind than the machine's outcome may, and the journal that was found
   pub behind : ForReady host.roots old.world (λ tree ready found.
       LeavesBehindAll host.roots (outcome_of host old.world.script words tree ready found) found tree old.world new.world)
+  -- also over a world that tells nothing words that are no command line do nothing but be refused
+  pub unread : (why : Refusal) → reading words ≡ Err why → EndsUnread host.roots why result
   -- it ends with a fault only where the outside's count rose, and says only the fixed line then
   pub fault : result ≡ end.Fault → IsFaulted old new
   -- and with a sink's fault only where a sink's count rose

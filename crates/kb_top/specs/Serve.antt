@@ -1,16 +1,18 @@
 -- What a command does to the world, and what it has to say of it. This project's own.
-use Rattle.std.specs.Prelude.{Bool, false, ◌||◌, List, Option, Some, None, Result}
+use Rattle.std.specs.Prelude.{◌≡◌, ◌⊎◌, Bool, false, ◌||◌, List, Option, Some, None, Result, Ok, Err}
 use Rattle.std.specs.Option.{ForSome}
 use Rattle.kb_world.specs.Path.{Path}
 use Rattle.kb_world.specs.Tree.{Tree}
-use Rattle.kb_world.specs.Public.{public_tree}
+use Rattle.kb_world.specs.Public.{intent_path, public_tree}
 use Rattle.kb_world.specs.State.{State, HasCause, Lasts, Unchanged}
 use Rattle.kb_machine.specs.Does.{Answers}
 use Rattle.kb_world.specs.declared.roots.Roots.{Roots}
 use Rattle.kb_world.specs.declared.job.Host.{Host}
 use Rattle.kb_world.specs.declared.job.Report.{Report}
+use Rattle.kb_world.specs.declared.refusal.Refusal.{Refusal}
+use Rattle.kb_world.specs.declared.refusal.Refusal.TheVariants as refusal
 use Rattle.kb_world.specs.declared.stop.Stop.{Stop}
-use Rattle.kb_world.specs.declared.stop.Stop.TheVariants.{Fault}
+use Rattle.kb_world.specs.declared.stop.Stop.TheVariants.{Refused, Fault, NoMemory}
 use Rattle.kb_changes.specs.declared.change.Intent.{Intent}
 use Rattle.kb_machine.specs.Across.{Survives}
 use Rattle.kb_machine.specs.Behind.{is_reached, touched_by, LeavesBehind}
@@ -18,6 +20,7 @@ use Rattle.kb_machine.specs.Outcome.{Outcome}
 use Rattle.kb_machine.specs.Opens.{IsReady}
 use Rattle.kb_machine.specs.Stands.{Stands}
 use Rattle.kb_intent.specs.Recover.{HasDamagedJournal}
+use Rattle.kb_words.specs.Reading.{reading}
 use Rattle.kb_words.specs.Words.{Word}
 use Rattle.kb_top.specs.Machine.{outcome_of, damaged_outcome}
 
@@ -39,6 +42,13 @@ touched_by_found (Some intent) path = touched_by intent.changes path
 abbrev pub LeavesBehindAll : Roots → Outcome → Option Intent → Tree → State → State → Type 0
 LeavesBehindAll roots outcome found = LeavesBehind roots outcome.requests (λ path. is_reached outcome.requests path || touched_by_found found path)
 
+-- where the words are no command line: they are refused so, or what stands at the journal's path is, or the call gave up
+abbrev pub RefusesUnread : Roots → Refusal → Result (Unit {0}) Stop → Type 0
+RefusesUnread roots why (Ok done) = ⊥
+RefusesUnread roots why (Err (Refused due)) = (due ≡ why) ⊎ (due ≡ refusal.Damaged (intent_path roots))
+RefusesUnread roots why (Err Fault) = Unit {0}
+RefusesUnread roots why (Err NoMemory) = Unit {0}
+
 pub record Serves (host : Host) (words : List Word) (old new : State) (before after : Report) (result : Result (Unit {0}) Stop) : Type 0 where
   -- the world and the report after it are those of the words' outcome
   pub answers : ForReady host.roots old (λ tree ready found.
@@ -52,5 +62,7 @@ pub record Serves (host : Host) (words : List Word) (old new : State) (before af
   -- whatever it answers it leaves no more behind than the outcome may, and the journal that was found
   pub behind : ForReady host.roots old (λ tree ready found.
       LeavesBehindAll host.roots (outcome_of host old.script words tree ready found) found tree old new)
+  -- also over a world that tells nothing
+  pub unread : (why : Refusal) → reading words ≡ Err why → RefusesUnread host.roots why result
   pub lasts : Lasts old new
   pub cause : HasCause Fault old new result

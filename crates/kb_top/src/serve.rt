@@ -1,14 +1,16 @@
 // A command, from its words to its report.
-ghost use Rattle.std.specs.Prelude.{◌≡◌, IfOk, IsTrue, None, true};
+ghost use Rattle.std.specs.Prelude.{◌≡◌, Err, IfOk, IsTrue, None, true};
 ghost use Rattle.std.specs.Option.{ForSome};
 ghost use Rattle.kb_world.specs.Public.{intent_path};
 ghost use Rattle.kb_world.specs.Roots.{AreApart};
 ghost use Rattle.kb_world.specs.Tree.{node_at};
+ghost use Rattle.kb_world.specs.declared.refusal.Refusal.{Refusal};
 ghost use Rattle.kb_machine.specs.Across.{DoesAcrossCrashes};
 ghost use Rattle.kb_dkms.specs.Host.{host_keeps_rules};
+ghost use Rattle.kb_words.specs.Reading.{reading};
 ghost use Rattle.kb_words.specs.Words as words;
 ghost use Rattle.kb_top.specs.Machine.{help_text, known_kernel, known_arch, known_host, perform, machine};
-ghost use Rattle.kb_top.specs.Serve.{Serves};
+ghost use Rattle.kb_top.specs.Serve.{RefusesUnread, Serves};
 ghost use Rattle.kb_top.specs.Telling.{words_found};
 
 use crate::adding::{Addition, perform_add};
@@ -121,9 +123,11 @@ fn serve_words<W: World>(
         (W.state world.old).roots ≡ host.now.roots) }
     requires bare { ForSome (W.state world.old).tree (λ tree. node_at tree
         (intent_path host.now.roots) ≡ None) }
-    ensures { DoesAcrossCrashes host.now.roots (machine host.now
+    ensures does { DoesAcrossCrashes host.now.roots (machine host.now
         (W.state world.old).script words.now (words_found found.now)) (W.state world.old)
         (W.state world.new) report.old report.new result }
+    ensures unread { (why : Refusal) → reading words.now ≡ Err why
+        → RefusesUnread host.now.roots why result }
 {
     let read = read_words(alloc, words, host);
     match tell_recovery(report, &read, found) {

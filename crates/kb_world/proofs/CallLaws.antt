@@ -1,5 +1,5 @@
 -- One call after another: its causes, and what no call changes.
-use Rattle.std.proofs.Common.{◌≡◌, ◌≤◌, ℕ, refl, sym, ap, ◌∙◌, arith}
+use Rattle.std.proofs.Common.{◌≡◌, ◌≤◌, ℕ, refl, ◌∙◌, arith}
 use Rattle.std.specs.Prelude.{IsErrOf, Result, Ok, Err, is_some}
 use Rattle.kb_world.specs.State.{State, HasCause, Rose, Lasts, RanNone, Unchanged}
 use Rattle.kb_world.specs.declared.stop.Stop.{Stop}

@@ -1,7 +1,7 @@
 -- Which paths lie below which.
-use Rattle.std.proofs.Common.{◌≡◌, ℕ, zero, suc, Bool, true, false, ◌&&◌, ◌||◌, not, List, [], ◌∷◌, ◌++◌, length, take, drop, Some, None, refl, sym, ap, ◌∙◌, subst, inl, inr, ◌⊎◌}
+use Rattle.std.proofs.Common.{◌≡◌, ℕ, zero, suc, Bool, true, false, ◌&&◌, ◌||◌, not, List, [], ◌∷◌, ◌++◌, length, take, drop, get_or, ◌≤◌, ◌<◌, arith, Some, None, refl, sym, ap, ◌∙◌, subst, inl, inr, ◌⊎◌}
 use Rattle.std.specs.Prelude.{bytes_eq}
-use Rattle.std.specs.List.{slice_get}
+use Rattle.std.specs.List.{slice_get, list_any}
 use Rattle.std.specs.Cmp.{first_so, second_so}
 use Rattle.std.specs.Cmp.Derive.{both_true}
 use Rattle.std.specs.Cmp.Lexicographic.{bytes_decides}
@@ -124,21 +124,47 @@ named_front (name ∷ path) (suc n) named = both_true (first_so (is_name name) _
 pub named_part : (path names : Path) (m n : ℕ) → names ≡ path → IsPath path → IsPath (take m (drop n names))
 named_part path names m n is named = named_front (drop n names) m (named_behind names n (subst IsPath (sym is) named))
 
--- seven tests, one after another or nested
-pub regrouped : (a b c d e f g : Bool) → ((((((a || b) || c) || d) || e) || f) || g) ≡ (a || (b || (c || (d || (e || (f || (g || false)))))))
-regrouped true b c d e f g = refl
-regrouped false true c d e f g = refl
-regrouped false false true d e f g = refl
-regrouped false false false true e f g = refl
-regrouped false false false false true f g = refl
-regrouped false false false false false true g = refl
-regrouped false false false false false false true = refl
-regrouped false false false false false false false = refl
+-- under a directory, it is the names behind it that count
+under_behind : (p a b : Path) → is_under p a ≡ true → is_under p (a ++ b) ≡ is_under (drop (length a) p) b
+under_behind p [] b h = refl
+under_behind [] (n ∷ a) b h = let q : true ≡ false = sym h in cc
+under_behind (m ∷ p) (n ∷ a) b h = ap (λ t. t && is_under p (a ++ b)) (first_so (bytes_eq n m) _ h) ∙ under_behind p a b (second_so (bytes_eq n m) _ h)
 
-pub regrouped_as : (a b c d e f g p q r s t u v : Bool) → a ≡ p → b ≡ q → c ≡ r → d ≡ s → e ≡ t → f ≡ u → g ≡ v
-    → ((((((a || b) || c) || d) || e) || f) || g) ≡ (p || (q || (r || (s || (t || (u || (v || false)))))))
-regrouped_as a b c d e f g p q r s t u v ha hb hc hd he hf hg =
-    (λ i. ((((((ha i || hb i) || hc i) || hd i) || he i) || hf i) || hg i)) ∙ regrouped p q r s t u v
+-- the first name tells whether names are under one of these
+pub any_first : (names own : Path) (first : List ℕ) → first ≡ get_or names 0 first → 1 ≤ length names → list_any (λ n. bytes_eq n first) own ≡ list_any (λ n. is_under names (n ∷ [])) own
+any_first [] own first e l = absurd (omega (arith, l))
+any_first (name ∷ rest) [] first e l = refl
+any_first (name ∷ rest) (n ∷ own) first e l = λ i. ((ap (bytes_eq n) e ∙ sym (and_true (bytes_eq n name))) i || any_first (name ∷ rest) own first e l i)
+
+pub none_first : (own : Path) (names : Path) → length names < 1 → false ≡ list_any (λ n. is_under names (n ∷ [])) own
+none_first own (name ∷ rest) l = absurd (omega (arith, l))
+none_first [] [] l = refl
+none_first (n ∷ own) [] l = none_first own [] l
+
+-- of a path below a directory, the names behind it tell whether it is under one of these entries
+pub any_behind : (p a own names : Path) → is_under p a ≡ true → names ≡ drop (length a) p → list_any (λ n. is_under names (n ∷ [])) own ≡ list_any (λ n. is_under p (a ++ n ∷ [])) own
+any_behind p a [] names h e = refl
+any_behind p a (n ∷ own) names h e = λ i. ((ap (λ q. is_under q (n ∷ [])) e ∙ sym (under_behind p a (n ∷ []) h)) i || any_behind p a own names h e i)
+
+pub none_behind : (p a own : Path) → is_under p a ≡ false → false ≡ list_any (λ n. is_under p (a ++ n ∷ [])) own
+none_behind p a [] h = refl
+none_behind p a (n ∷ own) h = none_behind p a own h ∙ sym (ap (λ t. t || list_any (λ n. is_under p (a ++ n ∷ [])) own) (under_other p a n h))
+
+-- tests by root, or by place with the scratch trees behind them
+pub by_roots : (i n s t x y b p : Bool) → (((((i || (n || (s || false))) || t) || x) || y) || (b || (p || false))) ≡ ((i || (n || (s || (x || (y || (b || (p || false))))))) || t)
+by_roots true n s t x y b p = refl
+by_roots false true s t x y b p = refl
+by_roots false false true t x y b p = refl
+by_roots false false false true true y b p = refl
+by_roots false false false true false true b p = refl
+by_roots false false false true false false true p = refl
+by_roots false false false true false false false true = refl
+by_roots false false false true false false false false = refl
+by_roots false false false false true y b p = refl
+by_roots false false false false false true b p = refl
+by_roots false false false false false false true p = refl
+by_roots false false false false false false false true = refl
+by_roots false false false false false false false false = refl
 
 -- a path under a directory is that directory's with names behind it
 pub under-split : (p a : Path) → is_under p a ≡ true → p ≡ a ++ drop (length a) p

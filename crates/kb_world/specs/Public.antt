@@ -1,5 +1,5 @@
 -- Which part of the tree is whose. This project's own.
-use Rattle.std.specs.Prelude.{◌≡◌, ◌+◌, Bool, true, false, ◌&&◌, ◌||◌, not, List, [], ◌∷◌, length, nat_eq, Option, codes}
+use Rattle.std.specs.Prelude.{◌≡◌, ◌+◌, ℕ, Bool, true, false, ◌&&◌, ◌||◌, not, List, [], ◌∷◌, length, nat_eq, Option, codes}
 use Rattle.std.specs.List.{list_any}
 use Rattle.std.specs.FinMap.{retain_keys}
 use Rattle.kb_world.specs.Path.{Path, child, is_under}
@@ -15,6 +15,14 @@ intent_path roots = child roots.dkms (codes ".intent")
 -- what a command stages before its journal is committed
 abbrev pub staging_path : Path → Path
 staging_path root = child root (codes ".kb-staged")
+
+-- the names of private places directly in the dkms root
+abbrev pub private_dkms_names : List (List ℕ)
+private_dkms_names = codes ".intent" ∷ codes ".intent.new" ∷ codes ".kb-staged" ∷ []
+
+-- and in the boot root
+abbrev pub private_boot_names : List (List ℕ)
+private_boot_names = codes ".kb-staged" ∷ codes ".kb-plugins" ∷ []
 
 abbrev pub private_places : Roots → List Path
 private_places roots =

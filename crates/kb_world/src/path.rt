@@ -61,6 +61,9 @@ impl<T: Drop> From<AllocFailed<T>> for PathError {
     }
 }
 
+// The room that the text of a path begins with: most are no longer.
+const USUAL_LENGTH: usize = 128;
+
 // What stands behind a leading `/`.
 fn after_slash(text: &str) -> Option<&str>
     ensures { MatchOption result ((rest : List ℕ) → text.now ≢ byte "/" ∷ rest) (λ rest. text.now ≡ byte "/" ∷ rest.now) }
@@ -89,6 +92,17 @@ fn names_of(alloc: Global, parts: &[&str]) -> Result<Vec<Text>, PathError>
         names.push(Text::of(alloc, part)?)?;
     }
     Ok(names)
+}
+
+// A copy of the names, with room for some more.
+fn copy_with_room(alloc: Global, names: &[Text], more: usize) -> Result<Vec<Text>, AllocError>
+    ensures { IfOk result (λ copy. copy.items ≡ names.now) }
+{
+    let mut copy = Vec::with_capacity(alloc, names.len().saturating_add(more))?;
+    for name in names {
+        copy.push(name.clone()?)?;
+    }
+    Ok(copy)
 }
 
 // The name, where it is the only one.
@@ -135,7 +149,15 @@ impl Path {
     pub fn text(&self, alloc: Global) -> Result<Text, AllocError>
         ensures { IfOk result (λ text. text ≡ path_text self.now) }
     {
-        Ok(Text::from_string(self.to_string(alloc)?))
+        if self.names.is_empty() {
+            return Text::of(alloc, "/");
+        }
+        let mut text = Text::with_room(alloc, USUAL_LENGTH)?;
+        for name in &self.names {
+            text.push_str("/")?;
+            text.push_str(name.as_str())?;
+        }
+        Ok(text)
     }
 
     /// The path of the entry with this name in this directory.
@@ -143,9 +165,9 @@ impl Path {
         requires { IsTrue (is_name name.now) }
         ensures { IfOk result (λ made. made ≡ child self.now name.now) }
     {
-        let mut made = self.clone()?;
-        made.names.push(Text::of(alloc, name)?)?;
-        Ok(made)
+        let mut names = copy_with_room(alloc, &self.names, 1)?;
+        names.push(Text::of(alloc, name)?)?;
+        Ok(Path { names })
     }
 
     /// The path two names below this directory.
@@ -163,7 +185,7 @@ impl Path {
         requires { IsPath names.now }
         ensures { IfOk result (λ made. made ≡ self.now ++ names.now) }
     {
-        let mut all = self.names().to_vec(alloc)?;
+        let mut all = copy_with_room(alloc, &self.names, names.len())?;
         for name in names {
             all.push(name.clone()?)?;
         }

@@ -32,6 +32,15 @@ impl Text {
         })
     }
 
+    /// An empty text with room for so many bytes.
+    pub fn with_room(alloc: Global, bytes: usize) -> Result<Text, AllocError>
+        ensures { IfOk result (λ made. made ≡ []) }
+    {
+        Ok(Text {
+            string: String::with_capacity(alloc, bytes)?,
+        })
+    }
+
     /// The text of a string, which it takes over.
     pub fn from_string(string: String) -> Text
         ensures { result ≡ string_bytes string }

@@ -1,8 +1,11 @@
 -- What stands at the journal's path decides.
 use Rattle.std.proofs.Common.{rules, ap, sym, ◌∙◌}
 use Rattle.kb_world.specs.Tree.{node_at, kind_of}
-use Rattle.kb_intent.proofs.RecoverLaws.{absent_stands, unfit_damaged, recovers_bare, recovers_damaged, recovers_since, recovers_unseen}
+use Rattle.kb_intent.proofs.RecoverLaws.{absent_stands, unfit_damaged, recovers_bare, recovers_damaged, recovers_since, recovers_unseen, recovers_wanting}
 use Rattle.kb_intent.proofs.recovering.recover.Goals as goal
+
+pub returns-in-Err : goal.returns-in-Err
+returns-in-Err g c = recovers_wanting c.args.roots.now (g.W.World.state c.args.world.now)
 
 pub returns-in-Ok-Absent : goal.returns-in-Ok-Absent
 returns-in-Ok-Absent g c =

@@ -10,9 +10,9 @@ returns-clause-goes_on c roots action old mid new before after result aside is f
     does_aside roots action old mid new before after tt result formed w ran lasts (subst (HasCause Fault old mid) is cause) d
 
 pub returns-clause-stopped : goal.returns-clause-stopped
-returns-clause-stopped c roots action old new before after result aside due same formed w lasts cause = elim due [
+returns-clause-stopped c roots action old new before after result aside due same formed w ran lasts cause = elim due [
   | inl is ↦ subst (DoesAcrossCrashes roots action old new before after) (sym is)
-      (aside_stops roots action old new before after Fault tt formed w lasts (subst (HasCause Fault old new) (same ∙ is) cause))
+      (aside_stops roots action old new before after Fault tt formed w ran lasts (subst (HasCause Fault old new) (same ∙ is) cause))
   | inr is ↦ subst (DoesAcrossCrashes roots action old new before after) (sym is)
-      (aside_stops roots action old new before after NoMemory tt formed w lasts (subst (HasCause Fault old new) (same ∙ is) cause))
+      (aside_stops roots action old new before after NoMemory tt formed w ran lasts (subst (HasCause Fault old new) (same ∙ is) cause))
 ]

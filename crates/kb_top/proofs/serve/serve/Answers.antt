@@ -12,7 +12,7 @@ serve_words-requires-clause-bare g c = left_bare c.args.host.now.roots (g.W.Worl
 pub returns-in-Ok : goal.returns-in-Ok
 returns-in-Ok g c =
     serves_on c.args.host.now c.args.words.now (g.W.World.state c.args.world.now) (g.W.World.state c.recover.new.world) (g.W.World.state c.serve_words.new.world) c.in-Ok.found c.args.report.now
-    c.serve_words.new.report c.serve_words.result c.requires.rooted (g.met.W.World.formed c.recover.new.world) c.in-Ok.ensures c.serve_words.ensures
+    c.serve_words.new.report c.serve_words.result c.requires.rooted (g.met.W.World.formed c.recover.new.world) c.in-Ok.ensures c.serve_words.ensures.does c.serve_words.ensures.unread
 
 pub returns-in-Err : goal.returns-in-Err
 returns-in-Err g c =
