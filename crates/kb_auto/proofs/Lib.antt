@@ -2,6 +2,6 @@ pub mod NextLaws
 pub mod OrderLaws
 pub mod PlacedLaws
 pub mod QueueLaws
-pub mod RankLaws
+pub mod RingLaws
 pub mod RowLaws
 pub mod WebLaws

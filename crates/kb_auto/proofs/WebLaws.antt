@@ -1,5 +1,5 @@
 -- Laws of the places of names, and of the rows that tell who waits for whom.
-use Rattle.std.proofs.Common.{◌≡◌, ◌≢◌, ℕ, suc, ◌+◌, ◌-◌, ◌<◌, ◌≤◌, Bool, true, false, cond, ◌&&◌, ◌||◌, not, List, [], ◌∷◌, ◌++◌, length, get_or, set, take, map, Some, None, refl, sym, ap, ◌∙◌, subst, arith, nat_eq, nat_lt, vec_len, ◌⊎◌, inl, inr, get_or-set_same, get_or-set_other}
+use Rattle.std.proofs.Common.{◌≡◌, ◌≢◌, ℕ, zero, suc, Option, ◌+◌, ◌-◌, ◌<◌, ◌≤◌, Bool, true, false, cond, ◌&&◌, ◌||◌, not, List, [], ◌∷◌, ◌++◌, length, get_or, set, take, map, Some, None, refl, sym, ap, ◌∙◌, subst, arith, nat_eq, nat_lt, vec_len, ◌⊎◌, inl, inr, get_or-set_same, get_or-set_other}
 use Rattle.std.specs.Global.{Vec}
 use Rattle.std.specs.Option.{is_some, unwrap_or}
 use Rattle.std.specs.List.{count_by}
@@ -14,7 +14,7 @@ use Rattle.std.proofs.lemmas.List.{map_push, map-set, get_or_append_left, get_or
 use Rattle.std.proofs.lemmas.List.Sums.{count_by_more_yes, count_by_more_no}
 use Rattle.std.proofs.lemmas.Map.Text.{is_eq-slice_cmp}
 use Rattle.kb_auto.specs.declared.Listed.{Listed}
-use Rattle.kb_auto.specs.Order.{is_module_listed, is_open, NamesDiffer}
+use Rattle.kb_auto.specs.Order.{is_module_listed, is_open, NamesDiffer, IsFirstDoubled}
 use Rattle.kb_auto.specs.Queue.{module_at, ArePlaces, AreLinked, LinksSome, LinksMore, row_at, occurs, is_link, links}
 use Rattle.kb_auto.proofs.NextLaws.{bytes_eq-refl, bytes_eq-true, listed_at}
 use Rattle.kb_auto.proofs.RowLaws.{occurs_push}
@@ -41,8 +41,8 @@ places_none list places h =
 same_name : List ℕ → List ℕ → Bool
 same_name a b = is_eq (slice_cmp nat_cmp a b)
 
-module _ (list : List Listed) (n : ℕ) (name : List ℕ) (before after : BTreeMap (List ℕ) ℕ) (differ : NamesDiffer list) (l : n < length list)
-    (named : name ≡ (module_at list n).name)
+module _ (list : List Listed) (n : ℕ) (name : List ℕ) (before after : BTreeMap (List ℕ) ℕ) (l : n < length list)
+    (named : name ≡ (module_at list n).name) (fresh : get (slice_cmp nat_cmp) before name ≡ None)
     (updates : (q : List ℕ) → get (slice_cmp nat_cmp) after q ≡ cond (is_eq (slice_cmp nat_cmp name q)) (Some n) (get (slice_cmp nat_cmp) before q))
     (h : ArePlaces list n before) where
   exact : (q : List ℕ) → is_eq (slice_cmp nat_cmp name q) ≡ true → name ≡ q
@@ -64,9 +64,7 @@ module _ (list : List Listed) (n : ℕ) (name : List ℕ) (before after : BTreeM
   there k m = by_test (is_eq (slice_cmp nat_cmp name (module_at list k).name)) refl
     where
       by_test : (b : Bool) → is_eq (slice_cmp nat_cmp name (module_at list k).name) ≡ b → get (slice_cmp nat_cmp) after (module_at list k).name ≡ Some k
-      by_test true t =
-          let same : n ≡ k = differ n k (record { name = []; depends = [] }) l (omega (arith, m, l)) (sym named ∙ exact (module_at list k).name t) in
-          absurd (omega (arith, same, m))
+      by_test true t = no_some k (sym fresh ∙ ap (get (slice_cmp nat_cmp) before) (exact (module_at list k).name t) ∙ h.all k m)
       by_test false t = updates (module_at list k).name ∙ ap (λ b. cond b (Some n) (get (slice_cmp nat_cmp) before (module_at list k).name)) t ∙ h.all k m
 
   pub places_more : ArePlaces list (n + 1) after
@@ -81,6 +79,52 @@ module _ (list : List Listed) (n : ℕ) (name : List ℕ) (before after : BTreeM
       by_case k (inr more) m =
           let e : n ≡ k = omega (arith, more, m) in
           subst (λ i. get (slice_cmp nat_cmp) after (module_at list i).name ≡ Some i) e here
+
+-- the next name has no place yet, where names differ
+pub places_fresh : (list : List Listed) (n : ℕ) (name : List ℕ) (places : BTreeMap (List ℕ) ℕ) → NamesDiffer list → n < length list → name ≡ (module_at list n).name → ArePlaces list n places
+    → get (slice_cmp nat_cmp) places name ≡ None
+places_fresh list n name places differ l named h = by_place (get (slice_cmp nat_cmp) places name) refl
+  where
+    by_place : (found : Option ℕ) → get (slice_cmp nat_cmp) places name ≡ found → get (slice_cmp nat_cmp) places name ≡ None
+    by_place None e = e
+    by_place (Some k) e =
+        let m : k < n = h.within name k e in
+        let same : n ≡ k = differ n k (record { name = []; depends = [] }) l (omega (arith, m, l)) (sym (h.named name k e ∙ named)) in
+        absurd (omega (arith, same, m))
+
+pub none_there : (found : Option ℕ) → is_some found ≡ false → found ≡ None
+none_there None h = refl
+none_there (Some k) h = no_false (sym h)
+
+pub some_there : (found : Option ℕ) → is_some found ≡ true → (k : ℕ) × (found ≡ Some k)
+some_there None h = no_false h
+some_there (Some k) h = (k, refl)
+
+-- two places have two names
+pub places_apart : (list : List Listed) (n : ℕ) (places : BTreeMap (List ℕ) ℕ) → ArePlaces list n places → (i j : ℕ) → i < n → j < n → (module_at list i).name ≡ (module_at list j).name → i ≡ j
+places_apart list n places h i j l m same = some_one i j (sym (h.all i l) ∙ ap (get (slice_cmp nat_cmp) places) same ∙ h.all j m)
+
+at_place : (list : List Listed) (k : ℕ) (d : Listed) → k < length list → get_or list k d ≡ module_at list k
+at_place [] k d l = absurd (omega (arith, l))
+at_place (m ∷ list) zero d l = refl
+at_place (m ∷ list) (suc k) d l = at_place list k d (omega (arith, l))
+
+-- so the names differ, where each has a place
+pub placed_differ : (list : List Listed) (places : BTreeMap (List ℕ) ℕ) → ArePlaces list (length list) places → NamesDiffer list
+placed_differ list places h i j d l m same =
+    places_apart list (length list) places h i j l m
+    (sym (ap (λ (x : Listed). x.name) (at_place list i d l)) ∙ same ∙ ap (λ (x : Listed). x.name) (at_place list j d m))
+
+-- and one that has a place already stands twice
+pub doubled_at : (list : List Listed) (n k : ℕ) (name : List ℕ) (places : BTreeMap (List ℕ) ℕ) → n < length list → name ≡ (module_at list n).name → ArePlaces list n places
+    → get (slice_cmp nat_cmp) places name ≡ Some k → IsFirstDoubled list n
+doubled_at list n k name places l named h found = record {
+  within = l;
+  at = k;
+  before = h.within name k found;
+  same = h.named name k found ∙ named;
+  first = λ i j b m e. let i_in : i < n = omega (arith, b, m) in let same = places_apart list n places h i j i_in m e in omega (arith, same, b);
+}
 
 both_ways : (a b : Bool) → (a ≡ true → b ≡ true) → (b ≡ true → a ≡ true) → a ≡ b
 both_ways true b f g = sym (f refl)

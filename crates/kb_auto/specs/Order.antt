@@ -1,5 +1,5 @@
 -- The order in which modules are built and installed. This project's own, after the dependencies of dkms(8)'s BUILD_DEPENDS.
-use Rattle.std.specs.Prelude.{◌≡◌, ◌<◌, ◌&&◌, not, Bool, ℕ, zero, suc, List, [], ◌∷◌, ◌++◌, length, slice_index_or, Option, Some, None, if◌then◌else◌, nat_lt}
+use Rattle.std.specs.Prelude.{◌≡◌, ◌≢◌, ◌<◌, ◌&&◌, not, Bool, ℕ, zero, suc, List, [], ◌∷◌, ◌++◌, length, slice_index_or, Option, Some, None, if◌then◌else◌, nat_lt}
 use Rattle.std.specs.List.{list_any, count_by}
 use Rattle.std.specs.Ordering.{ordering_then, bool_cmp, nat_cmp, is_gt}
 use Rattle.std.specs.Cmp.Lexicographic.{slice_cmp}
@@ -57,3 +57,11 @@ modules_in_order list = placed (length list) list []
 -- no two modules have one name
 abbrev pub NamesDiffer : List Listed → Type 0
 NamesDiffer list = (i j : ℕ) (d : Listed) → i < length list → j < length list → (slice_index_or list i d).name ≡ (slice_index_or list j d).name → i ≡ j
+
+-- the first place whose name stands at an earlier one too
+pub record IsFirstDoubled (list : List Listed) (k : ℕ) : Type 0 where
+  pub within : k < length list
+  pub at : ℕ
+  pub before : at < k
+  pub same : (slice_index_or list at (record { name = []; depends = [] })).name ≡ (slice_index_or list k (record { name = []; depends = [] })).name
+  pub first : (i j : ℕ) → i < j → j < k → (slice_index_or list i (record { name = []; depends = [] })).name ≢ (slice_index_or list j (record { name = []; depends = [] })).name

@@ -3,7 +3,7 @@ ghost use Rattle.std.specs.Prelude.{◌≡◌, ◌≢◌, ◌<◌, ℕ, List, []
 ghost use Rattle.kb_auto.specs.declared.Listed.{Listed};
 ghost use Rattle.kb_auto.specs.Order.{NamesDiffer, modules_in_order, is_open, is_placed};
 ghost use Rattle.kb_auto.specs.Queue.{module_at};
-ghost use Rattle.kb_auto.specs.Laws.{IsRanked, placed_at};
+ghost use Rattle.kb_auto.specs.Laws.{HasNoRing, placed_at};
 
 /// The order has each name of the list, no other one, and none twice.
 pub fn each_module_is_placed_once()
@@ -18,8 +18,7 @@ pub fn modules_stand_behind_their_dependencies()
     ensures { (list : List Listed) (i k j : ℕ) → NamesDiffer list → i < length (modules_in_order list) → k < length list → (placed_at (modules_in_order list) i).name ≡ (module_at list k).name → (placed_at (modules_in_order list) i).cyclic ≡ false → j < length (module_at list k).depends → is_open list (take i (modules_in_order list)) (module_at list k) (slice_index_or (module_at list k).depends j []) ≡ false }
 {}
 
-/// Where modules can be ranked above their dependencies, so that none leads back to its start, no
-/// module is cyclic.
+/// Where no dependency leads back to its start, no module is cyclic.
 pub fn none_is_cyclic_without_a_ring()
-    ensures { (list : List Listed) (rank : List ℕ → ℕ) → IsRanked list rank → (i : ℕ) → i < length (modules_in_order list) → (placed_at (modules_in_order list) i).cyclic ≡ false }
+    ensures { (list : List Listed) → HasNoRing list → (i : ℕ) → i < length (modules_in_order list) → (placed_at (modules_in_order list) i).cyclic ≡ false }
 {}

@@ -2,6 +2,7 @@
 #![tactic(auto)]
 
 mod laws;
+mod names;
 mod placing;
 mod turns;
 mod web;
@@ -11,6 +12,7 @@ pub use laws::{
     each_module_is_placed_once, modules_stand_behind_their_dependencies,
     none_is_cyclic_without_a_ring,
 };
+pub use names::{first_doubled, names_differ};
 pub use placing::order;
 
 /// A module, with the names of those that are to stand before it.

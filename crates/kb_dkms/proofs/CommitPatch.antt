@@ -6,7 +6,7 @@ use Rattle.std.specs.Option.{ForSome, IfSome}
 use Rattle.kb_machine.specs.Outcome.{Action, transaction, warn, ◌then◌}
 use Rattle.kb_world.specs.Patch.{Patch, patched}
 use Rattle.kb_world.specs.Path.{Path}
-use Rattle.kb_world.specs.Public.{intent_path, is_public, public_tree, foreign_tree}
+use Rattle.kb_world.specs.Public.{IsNeverForeign, intent_path, is_public, public_tree, foreign_tree}
 use Rattle.kb_world.specs.Roots.{AreApart}
 use Rattle.kb_world.specs.Script.{Script}
 use Rattle.kb_world.specs.State.{State}
@@ -28,10 +28,12 @@ use Rattle.kb_changes.proofs.PatchGroups.{no_runs}
 use Rattle.kb_changes.proofs.PatchValid.{patch_is_valid}
 use Rattle.kb_again.proofs.RootLaws.{at_0}
 use Rattle.kb_machine.specs.Across.{SaysSo, DoesAcrossCrashes}
+use Rattle.kb_machine.specs.Behind.{touched_by}
 use Rattle.kb_machine.specs.Commits.{Commits, Transacted, transacted}
 use Rattle.kb_machine.proofs.AsideLaws.{aside_public, aside_foreign, aside_journal, does_aside, aside_stops, IsUnrefused}
 use Rattle.kb_machine.proofs.CommitLaws.{does_commit, does_uncommitted, does_untold}
 use Rattle.kb_machine.proofs.FitLaws.{fit_aside, root_aside}
+use Rattle.kb_machine.proofs.SparesLaws.{patch_spares}
 use Rattle.kb_machine.proofs.TransactLaws.{says_alone, says_asked}
 use Rattle.kb_intent.specs.declared.txn.Txn.{Txn}
 use Rattle.kb_dkms.specs.Commit.{changes_with, endings, IsPrepared, Prepares}
@@ -79,13 +81,17 @@ module _ (roots : Roots) (apart : AreApart roots) (script : Script) (patch : Pat
       by true h = h
       by false h = let impossible : false ≡ true = h in cc
 
+  -- what its changes touch is never foreign
+  spares : (path : Path) → touched_by (changes_of roots patch) path ≡ true → IsNeverForeign roots path
+  spares = patch_spares roots apart patch tree fits
+
   patch_says : (line which : List ℕ) (request : Option Request) → IfSome request (CanRunBehind roots patch tree)
       → SaysSo roots (transaction (patched roots patch) line then run_asked roots script which request) (transacted roots script (changes_with roots patch request)) line (endings which) tree
   patch_says line which None behind =
       subst (λ changes. SaysSo roots (transaction (patched roots patch) line then warn []) (transacted roots script changes) line (endings which) tree) (sym (append-nil (changes_of roots patch)))
-      (says_alone roots script (changes_of roots patch) (patched roots patch) line (λ reply. ended_line which reply.code) tree (no_runs roots patch) public_done (foreign_done roots apart script patch tree fits staged))
+      (says_alone roots script (changes_of roots patch) (patched roots patch) line (λ reply. ended_line which reply.code) tree (no_runs roots patch) public_done (foreign_done roots apart script patch tree fits staged) spares)
   patch_says line which (Some request) behind =
-      says_asked roots script (changes_of roots patch) (patched roots patch) line (λ reply. ended_line which reply.code) tree (no_runs roots patch) public_done (foreign_done roots apart script patch tree fits staged)
+      says_asked roots script (changes_of roots patch) (patched roots patch) line (λ reply. ended_line which reply.code) tree (no_runs roots patch) public_done (foreign_done roots apart script patch tree fits staged) spares
       request behind.idle (dir_done request.dir behind.there)
 
 with_is_valid : (roots : Roots) → AreApart roots → (patch : Patch) → MayStand roots patch → (tree : Tree) (request : Option Request) → IfSome request (CanRunBehind roots patch tree)
@@ -98,7 +104,7 @@ with_is_valid roots apart patch stands tree (Some request) behind = patch_is_val
 pub unprepared : {roots : Roots} {patch : Tree → Patch} {request : Option Request} {old mid : State} (action : Action) → ForSome old.tree IsFormed → (before after : Report) {stop : Stop}
     → Prepares roots patch request old mid (Err stop) → DoesAcrossCrashes roots action {T = Unit {0}} old mid before after (Err stop)
 unprepared {roots = roots} {old = old} {mid = mid} action formed before after {stop = stop} p =
-    aside_stops {T = Txn} roots action old mid before after stop (unrefused stop (λ why is. p.aside.unrefused why (ap (λ s. stopped s) is))) formed p.aside.aside p.aside.ran_none.lasts p.aside.cause
+    aside_stops {T = Txn} roots action old mid before after stop (unrefused stop (λ why is. p.aside.unrefused why (ap (λ s. stopped s) is))) formed p.aside.aside p.aside.ran_none.ran p.aside.ran_none.lasts p.aside.cause
   where
     stopped : Stop → Result Txn Stop
     stopped s = Err s
@@ -138,13 +144,19 @@ module _ {roots : Roots} (apart : AreApart roots) {patch : Tree → Patch} {line
         by None b = tt
         by (Some r) b = record { idle = b.idle; there = ap (λ store. is_dir (node_at (patched roots first store) r.dir)) (aside_public roots was.tree now was.same) ∙ b.there }
 
+    -- of the store and the foreign tree as they stand now
+    patch_said : SaysSo roots (transaction (patched roots first) line then run_asked roots old.script which request) (transacted roots old.script txn.intent.changes) line (endings which) now
+    patch_said =
+        subst (λ changes. SaysSo roots (transaction (patched roots first) line then run_asked roots old.script which request) (transacted roots old.script changes) line (endings which) now) (sym ready.changes)
+        (patch_says roots apart old.script first now (fit_aside roots apart first was.tree now was.same (formed now told) could.fits) (subst (HasStaged roots (nodes_of roots first)) is_now ready.staged) line which request behind)
+
     says : SaysSo roots action (transacted roots old.script txn.intent.changes) line (endings which) now
     says = record {
       says =
           (λ i. action (aside_public roots was.tree now was.same i) (aside_foreign roots was.tree now was.same i)) ∙ is.acts was.tree was.told
           ∙ (λ i. (transaction (patched roots first) line then run_asked roots old.script which request) (sym (aside_public roots was.tree now was.same) i) (sym (aside_foreign roots was.tree now was.same) i))
-          ∙ (subst (λ changes. SaysSo roots (transaction (patched roots first) line then run_asked roots old.script which request) (transacted roots old.script changes) line (endings which) now) (sym ready.changes)
-          (patch_says roots apart old.script first now (fit_aside roots apart first was.tree now was.same (formed now told) could.fits) (subst (HasStaged roots (nodes_of roots first)) is_now ready.staged) line which request behind)).says;
+          ∙ patch_said.says;
+      spares = patch_said.spares;
     }
 
   pub valid_there : ForSome mid.tree (λ tree. is_valid txn.roots txn.intent.changes ≡ true)

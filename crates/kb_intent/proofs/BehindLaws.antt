@@ -1,11 +1,11 @@
 -- What changes leave foreign: at paths that they don't touch what stood there, but for what is private.
 use Rattle.std.proofs.Common.{◌≡◌, ◌⊎◌, ℕ, Bool, true, false, cond, ◌&&◌, ◌||◌, not, List, [], ◌∷◌, Option, Some, None, refl, sym, ap, ◌∙◌, inl, inr}
 use Rattle.std.specs.List.{list_any}
-use Rattle.std.proofs.lemmas.Bool.{cases_Bool, true≢false}
+use Rattle.std.proofs.lemmas.Bool.{cases_Bool, true≢false, or_parts, or_left, or_right}
 use Rattle.std.proofs.lemmas.List.Folds.{list_any-append}
 use Rattle.kb_world.specs.Area.{lets_differ, is_named}
 use Rattle.kb_world.specs.Path.{Path, is_under}
-use Rattle.kb_world.specs.Public.{staging_path, is_private, is_public, is_foreign, foreign_tree}
+use Rattle.kb_world.specs.Public.{staging_path, is_private, is_foreign, foreign_tree}
 use Rattle.kb_world.specs.Script.{Script, tree_after}
 use Rattle.kb_world.specs.State.{State, Unchanged}
 use Rattle.kb_world.specs.Tree.{Tree, node_at, with_node, without, moved, is_dir}
@@ -23,6 +23,7 @@ use Rattle.kb_changes.specs.declared.change.Change.{Change}
 use Rattle.kb_changes.specs.declared.change.Change.TheVariants.{Dir, Put, Drop, DropDir, Wipe, Run}
 use Rattle.kb_changes.specs.declared.change.RootName.{RootName}
 use Rattle.kb_changes.specs.declared.change.RootName.TheVariants as root_name
+use Rattle.kb_changes.proofs.PatchForeign.{private-own}
 use Rattle.kb_again.specs.Sparing.{reaches}
 use Rattle.kb_again.specs.Within.{IsWithin, IsWithinNext, staging_paths}
 use Rattle.kb_again.proofs.WriteLaws.{edited-apart}
@@ -41,10 +42,6 @@ use Rattle.kb_intent.proofs.StandingLaws.{IsHiddenFrom, staged_private}
 abbrev pub or_private : Roots → (Path → Bool) → Path → Bool
 or_private roots may path = may path || is_private roots path
 
-or_parts : (a b : Bool) → (a || b) ≡ false → (a ≡ false) × (b ≡ false)
-or_parts true b out = absurd (true≢false out)
-or_parts false b out = (refl, out)
-
 or_none : (a b : Bool) → a ≡ false → b ≡ false → (a || b) ≡ false
 or_none true b out other = out
 or_none false b out other = other
@@ -53,14 +50,10 @@ or_none false b out other = other
 foreign_at : (roots : Roots) (tree now : Tree) (path : Path) → ((is_private roots path ≡ false) → node_at now path ≡ node_at tree path)
     → node_at (foreign_tree roots now) path ≡ node_at (foreign_tree roots tree) path
 foreign_at roots tree now path same = elim (cases_Bool (is_private roots path)) [
-  | inl private ↦ never_shown roots now tree path (λ at. never (is_public roots path at) (is_private roots path) private)
+  | inl private ↦ never_shown roots now tree path (private-own roots path private)
   | inr open_at ↦
       node_at-foreign_tree roots now path ∙ ap (λ at. cond (is_foreign roots path at) at None) (same open_at) ∙ sym (node_at-foreign_tree roots tree path)
 ]
-  where
-    never : (a b : Bool) → b ≡ true → (not a && not b) ≡ false
-    never true b private = refl
-    never false b private = ap not private
 
 pub foreign_but : (roots : Roots) (may : Path → Bool) (tree now : Tree) → IsSameBut (or_private roots may) tree now → IsSameBut may (foreign_tree roots tree) (foreign_tree roots now)
 foreign_but roots may tree now same path out = foreign_at roots tree now path (λ open_at. same path (or_none (may path) (is_private roots path) out open_at))
@@ -85,21 +78,14 @@ private_but roots may tree now hidden = but_then roots may tree tree now (λ pat
 root_staged : (roots : Roots) (root : RootName) (path : Path) → is_under path (staging_path (root_path roots root)) ≡ true → list_any (is_under path) (staging_paths roots) ≡ true
 root_staged roots root path under = by root under
   where
-    left : (a b : Bool) → a ≡ true → (a || b) ≡ true
-    left a b h = ap (λ x. x || b) h
-
-    right : (a b : Bool) → b ≡ true → (a || b) ≡ true
-    right true b h = refl
-    right false b h = h
-
     at : Path → Bool
     at place = is_under path (staging_path place)
 
     by : (root : RootName) → at (root_path roots root) ≡ true → (at roots.dkms || (at roots.src || (at roots.modules || (at roots.boot || false)))) ≡ true
-    by root_name.Dkms h = left (at roots.dkms) _ h
-    by root_name.Src h = right (at roots.dkms) _ (left (at roots.src) _ h)
-    by root_name.Modules h = right (at roots.dkms) _ (right (at roots.src) _ (left (at roots.modules) _ h))
-    by root_name.Boot h = right (at roots.dkms) _ (right (at roots.src) _ (right (at roots.modules) _ (left (at roots.boot) _ h)))
+    by root_name.Dkms h = or_left (at roots.dkms) _ h
+    by root_name.Src h = or_right (at roots.dkms) _ (or_left (at roots.src) _ h)
+    by root_name.Modules h = or_right (at roots.dkms) _ (or_right (at roots.src) _ (or_left (at roots.modules) _ h))
+    by root_name.Boot h = or_right (at roots.dkms) _ (or_right (at roots.src) _ (or_right (at roots.modules) _ (or_left (at roots.boot) _ h)))
 
 place_private : (roots : Roots) (root : RootName) (number : ℕ) → is_private roots (staged_path roots root number) ≡ true
 place_private roots root number = staged_private roots (staged_path roots root number) (root_staged roots root (staged_path roots root number) (staged_under roots root number))

@@ -1,3 +1,4 @@
+pub mod BuiltLaws
 pub mod KeptLaws
 pub mod LineLaws
 pub mod OrderLaws

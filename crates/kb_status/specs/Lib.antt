@@ -1,3 +1,4 @@
+pub mod Built
 pub mod Filter
 pub mod Line
 pub mod LineOf

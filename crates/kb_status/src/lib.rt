@@ -2,6 +2,7 @@
 //! none, as far as a filter wants them, in their order.
 #![tactic(auto)]
 
+mod built;
 mod filter;
 mod laws;
 mod line;

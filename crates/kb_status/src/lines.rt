@@ -1,34 +1,27 @@
 // Which lines there are.
 ghost use Rattle.std.specs.Prelude.{◌≡◌, ◌++◌, IfOk, OnOk};
-ghost use Rattle.std.specs.List.{list_any};
-ghost use Rattle.kb_world.specs.Store.{same_key};
 ghost use Rattle.kb_store.specs.Accessors.{is_installed_build};
+ghost use Rattle.kb_store.specs.declared.store.Store.{Store};
+ghost use Rattle.kb_status.specs.Built.{AreBuilt};
 ghost use Rattle.kb_status.specs.Lines as rule;
 
+use crate::built::{Package, built_packages, is_built};
 use crate::filter::{wants_all_spots, wants_key, wants_spot};
 use crate::line::{Line, State};
 use kb_store::{Build, Store};
 use kb_world::{Filter, Key, Spot};
 use std::alloc::{AllocError, Global};
+use std::collections::BTreeSet;
 
-fn is_same_key(a: &Key, b: &Key) -> bool
-    ensures { result ≡ same_key a.now b.now }
+// Whether the added package has a line of its own, where these packages are built.
+fn has_line(built: &BTreeSet<Package>, filter: &Filter, key: &Key) -> Result<bool, AllocError>
+    ensures { IfOk result (λ has. (store : Store) → AreBuilt store built.now → has ≡ rule.has_line store filter.now key.now) }
 {
-    a.module.as_str() == b.module.as_str() && a.version.as_str() == b.version.as_str()
-}
-
-// Whether one of the builds is of the package.
-fn has_build(builds: &[Build], key: &Key) -> bool
-    ensures { result ≡ list_any (λ build. same_key build.key key.now) builds.now }
-{
-    builds.iter().any(|build| is_same_key(&build.key, key))
-}
-
-// Whether the added package has a line of its own.
-fn has_line(store: &Store, filter: &Filter, key: &Key) -> bool
-    ensures { result ≡ rule.has_line store.now filter.now key.now }
-{
-    wants_all_spots(filter) && wants_key(filter, key) && !has_build(store.builds(), key)
+    if wants_all_spots(filter) && wants_key(filter, key) {
+        Ok(!is_built(built, key)?)
+    } else {
+        Ok(false)
+    }
 }
 
 fn is_build_wanted(filter: &Filter, build: &Build) -> bool
@@ -82,12 +75,18 @@ fn build_line(store: &Store, build: &Build) -> Result<Line, AllocError>
     })
 }
 
-fn push_added(lines: &mut Vec<Line>, store: &Store, filter: &Filter) -> Result<(), AllocError>
+fn push_added(
+    alloc: Global,
+    lines: &mut Vec<Line>,
+    store: &Store,
+    filter: &Filter,
+) -> Result<(), AllocError>
     ensures { OnOk result (
         lines.new.items ≡ lines.old.items ++ rule.added_lines store.now filter.now) }
 {
+    let built = built_packages(alloc, store)?;
     for key in store.added() {
-        if has_line(store, filter, key) {
+        if has_line(&built, filter, key)? {
             lines.push(line_of_added(key)?)?;
         }
     }
@@ -111,7 +110,7 @@ pub fn status_lines(alloc: Global, store: &Store, filter: &Filter) -> Result<Vec
     ensures { IfOk result (λ lines. lines.items ≡ rule.status_lines store.now filter.now) }
 {
     let mut lines = Vec::new(alloc);
-    push_added(&mut lines, store, filter)?;
+    push_added(alloc, &mut lines, store, filter)?;
     push_builds(&mut lines, store, filter)?;
     Ok(lines)
 }

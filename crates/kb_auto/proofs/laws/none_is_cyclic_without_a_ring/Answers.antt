@@ -1,4 +1,4 @@
-use Rattle.kb_auto.proofs.RankLaws.{none_cyclic}
+use Rattle.kb_auto.proofs.RingLaws.{none_cyclic}
 use Rattle.kb_auto.proofs.laws.none_is_cyclic_without_a_ring.Goals as goal
 
 pub returns : goal.returns
