@@ -90,5 +90,5 @@ module _ (roots : Roots) (from : Path) (old new : State) where
 
   pub whole_met : (result : Result (Sequence Met) Stop) → IfOk result (λ met. ForSome old.tree (λ tree. met ≡ (walked LIMITS tree (is_private roots) from).met))
       → IfOk result (λ met. ForSome old.tree (λ tree. met ≡ met_below from (whole_tree roots tree)))
-  whole_met (Ok met) is tree told = is tree told ∙ ap (λ (w : Walk). w.met) (walked_whole roots LIMITS tree from)
+  whole_met (Ok met) is = λ tree told. is tree told ∙ ap (λ (w : Walk). w.met) (walked_whole roots LIMITS tree from)
   whole_met (Err stop) is = tt

@@ -37,8 +37,28 @@ use Rattle.kb_walk.specs.declared.walking.Met.{Met}
 use Rattle.kb_walk.proofs.OrderLaws.{names_exact, untrue, rises}
 use Rattle.kb_store.proofs.ToldByEntries.{open_place, below_place}
 use Rattle.kb_walk.proofs.VisitLaws.{dir_of}
-use Rattle.kb_walk.proofs.LimitLaws.{between}
 use Rattle.kb_walk.proofs.MemberLaws.{entries_rise}
+
+-- What stands before a path of a list that rises is less than it. What stands behind it is greater, and rises.
+record IsBetween (before : List Path) (far : Path) (behind : List Path) : Type 0 where
+  less : list_all (λ path. is_lt (path_cmp path far)) before ≡ true
+  greater : list_all (λ path. is_lt (path_cmp far path)) behind ≡ true
+  up : rises behind ≡ true
+
+between : (before : List Path) (far : Path) (behind : List Path) → rises (before ++ far ∷ behind) ≡ true → IsBetween before far behind
+between [] far behind up = record {
+  less = refl;
+  greater = first_so (list_all (λ other. is_lt (path_cmp far other)) behind) (rises behind) up;
+  up = second_so (list_all (λ other. is_lt (path_cmp far other)) behind) (rises behind) up;
+}
+between (path ∷ before) far behind up =
+    let all = first_so (list_all (λ other. is_lt (path_cmp path other)) (before ++ far ∷ behind)) (rises (before ++ far ∷ behind)) up in
+    let later = between before far behind (second_so (list_all (λ other. is_lt (path_cmp path other)) (before ++ far ∷ behind)) (rises (before ++ far ∷ behind)) up) in
+    record { less = both_true (here before all) later.less; greater = later.greater; up = later.up }
+  where
+    here : (paths : List Path) → list_all (λ other. is_lt (path_cmp path other)) (paths ++ far ∷ behind) ≡ true → is_lt (path_cmp path far) ≡ true
+    here [] all = first_so (is_lt (path_cmp path far)) (list_all (λ other. is_lt (path_cmp path other)) behind) all
+    here (other ∷ paths) all = here paths (second_so (is_lt (path_cmp path other)) (list_all (λ other. is_lt (path_cmp path other)) (paths ++ far ∷ behind)) all)
 
 -- ---- what is under a path stands behind it, before all that isn't
 

@@ -4,6 +4,7 @@ pub mod ContentsLaws
 pub mod EntryLaws
 pub mod FarLaws
 pub mod InstalledClaims
+pub mod KindLaws
 pub mod NotesOfLists
 pub mod NotesOfPlaces
 pub mod NotingLoops

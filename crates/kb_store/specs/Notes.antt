@@ -1,9 +1,9 @@
 -- What each path below the dkms root tells of a store without damage, and which damaged paths it tells of. This
 -- project's own.
-use Rattle.std.specs.Prelude.{ℕ, Bool, ◌&&◌, ◌||◌, nat_lt, cond, not, List, [], ◌∷◌, ◌++◌, length, drop, map, filter, flat_map, filter_map, Option, Some, None, is_some, fold}
+use Rattle.std.specs.Prelude.{◌≡◌, ℕ, Bool, ◌&&◌, ◌||◌, nat_lt, cond, not, List, [], ◌∷◌, ◌++◌, length, drop, map, filter, flat_map, filter_map, Option, Some, None, is_some, fold}
 use Rattle.std.specs.Ordering.{is_lt}
 use Rattle.kb_world.specs.Path.{Path, path_cmp, is_under}
-use Rattle.kb_world.specs.Tree.{Tree, node_at, is_file}
+use Rattle.kb_world.specs.Tree.{Tree, node_at, kind_of, is_file}
 use Rattle.kb_world.specs.Public.{is_private}
 use Rattle.kb_world.specs.Store.{added_at, is_added, link_path}
 use Rattle.kb_world.specs.Boxes.{places_at, kernel_link_path, linked_at, targets_path, module_file}
@@ -15,6 +15,7 @@ use Rattle.kb_world.specs.declared.store_path.StorePath.{StorePath}
 use Rattle.kb_world.specs.declared.store_path.StorePath.TheVariants.{SourceLink, Targets, KernelLink}
 use Rattle.kb_store.specs.Contents.{at_place, build_by, build_of, installation_by, installation_of}
 use Rattle.kb_walk.specs.Walking.{entries}
+use Rattle.kb_walk.specs.declared.walking.Met.{Met}
 use Rattle.kb_store.specs.declared.store.Build.{Build}
 use Rattle.kb_store.specs.declared.store.Installation.{Installation}
 use Rattle.kb_store.specs.declared.notes.Notes.{Notes}
@@ -90,6 +91,16 @@ entries_if roots tree (Some directory) = entries tree (is_far roots directory) d
 -- those of the version that the path lies below
 abbrev pub version_entries : Roots → Tree → Path → List Path
 version_entries roots tree path = entries_if roots tree (version_above roots path)
+
+-- ---- what a walk met
+
+-- the entry has the kind of what stands at its path
+abbrev pub IsKindOf : Tree → Met → Type 0
+IsKindOf tree entry = entry.kind ≡ kind_of (node_at tree entry.path)
+
+abbrev pub AreKinds : Tree → List Met → Type 0
+AreKinds tree [] = Unit {0}
+AreKinds tree (entry ∷ met) = IsKindOf tree entry × AreKinds tree met
 
 -- ---- by the kind of entry
 

@@ -9,9 +9,11 @@ ghost use Rattle.kb_world.specs.State.{Looks};
 ghost use Rattle.kb_world.specs.Store as store;
 ghost use Rattle.kb_world.specs.Boxes as boxes;
 ghost use Rattle.kb_world.specs.StorePath.{is_key, is_spot};
+ghost use Rattle.kb_store.specs.Notes.{IsKindOf};
 
 use crate::place::Places;
 use crate::targets::read_targets;
+use kb_walk::Met;
 use kb_world::{Key, Kind, Path, Roots, Spot, Text, World, WorldError, is_version};
 use std::alloc::{AllocError, Global};
 
@@ -50,19 +52,37 @@ pub fn link_at<W: World>(
     }
 }
 
-/// Whether a version is added, by what stands at the path of its link.
+// What the link of an entry says that was met; none where it is no link.
+fn link_met<W: World>(
+    alloc: Global,
+    world: &mut W,
+    entry: &Met,
+) -> Result<Option<Text>, WorldError>
+    requires { ForSome (W.state world.old).tree (λ tree. IsKindOf tree entry.now) }
+    ensures told { IfOk result (λ text. ForSome (W.state world.old).tree (λ tree. text ≡ link_text (node_at tree entry.now.path))) }
+    ensures same { Looks (W.state world.old) (W.state world.new) result }
+{
+    match entry.kind {
+        Kind::Link => Ok(Some(world.read_link(alloc, &entry.path)?)),
+        _ => Ok(None),
+    }
+}
+
+/// Whether a version is added, by the entry that was met at the path of its link.
 pub fn is_added<W: World>(
     alloc: Global,
     world: &mut W,
     roots: &Roots,
     key: &Key,
+    link: &Met,
 ) -> Result<bool, WorldError>
-    requires { IsTrue (is_key key.now) }
+    requires named { IsTrue (is_key key.now) }
+    requires there { link.now.path ≡ store.link_path roots.now key.now }
+    requires kind { ForSome (W.state world.old).tree (λ tree. IsKindOf tree link.now) }
     ensures told { IfOk result (λ added. ForSome (W.state world.old).tree (λ tree. added ≡ store.is_added roots.now key.now tree)) }
     ensures same { Looks (W.state world.old) (W.state world.new) result }
 {
-    let path = roots.source_link(alloc, key)?;
-    match link_at(alloc, world, &path)? {
+    match link_met(alloc, world, link)? {
         Some(text) => {
             let wanted = roots.source_dir(alloc, key)?.text(alloc)?;
             Ok(text.as_str() == wanted.as_str())

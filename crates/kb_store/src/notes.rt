@@ -6,10 +6,11 @@ ghost use Rattle.kb_world.specs.Names.{is_word};
 ghost use Rattle.kb_world.specs.Tree.{node_at, is_file};
 ghost use Rattle.kb_world.specs.Path.{child};
 ghost use Rattle.kb_world.specs.State.{Looks};
-ghost use Rattle.kb_world.specs.StorePath.{is_key, is_spot, is_ruled};
+ghost use Rattle.kb_world.specs.StorePath.{is_key, is_spot, is_ruled, path_of};
+ghost use Rattle.kb_world.specs.Store.{link_path};
 ghost use Rattle.kb_world.specs.Targets.{is_place};
 ghost use Rattle.kb_world.specs.Targets as targets;
-ghost use Rattle.kb_store.specs.Notes.{no_notes, harmed, source_noted, link_noted, absence_noted, box_noted, place_noted, noted, noted_all};
+ghost use Rattle.kb_store.specs.Notes.{IsKindOf, AreKinds, no_notes, harmed, source_noted, link_noted, absence_noted, box_noted, place_noted, noted, noted_all};
 
 use crate::entries::{is_added, linked_at, places_at};
 use crate::place::last_name;
@@ -64,17 +65,19 @@ fn note_source<W: World>(
     world: &mut W,
     roots: &Roots,
     key: Key,
+    link: &Met,
     notes: &mut Notes,
 ) -> Result<(), WorldError>
-    requires { IsTrue (is_key key) }
+    requires named { IsTrue (is_key key) }
+    requires there { link.now.path ≡ link_path roots.now key }
+    requires kind { ForSome (W.state world.old).tree (λ tree. IsKindOf tree link.now) }
     ensures noted { OnOk result (ForSome (W.state world.old).tree (λ tree. notes.new ≡ source_noted roots.now tree notes.old key)) }
     ensures same { Looks (W.state world.old) (W.state world.new) result }
 {
-    if is_added(alloc, world, roots, &key)? {
+    if is_added(alloc, world, roots, &key, link)? {
         notes.added.push(key)?;
     } else {
-        let link = roots.source_link(alloc, &key)?;
-        notes.add_harm(&link)?;
+        notes.add_harm(&link.path)?;
     }
     Ok(())
 }
@@ -192,20 +195,23 @@ fn note_box<W: World>(
     Ok(())
 }
 
-// Notes what stands at the path that is for this.
+// Notes what stands at the entry's path, which is for this.
 fn note_place<W: World>(
     alloc: Global,
     world: &mut W,
     roots: &Roots,
     place: StorePath,
+    entry: &Met,
     notes: &mut Notes,
 ) -> Result<(), WorldError>
-    requires { IsTrue (is_ruled place) }
+    requires ruled { IsTrue (is_ruled place) }
+    requires there { entry.now.path ≡ path_of roots.now place }
+    requires kind { ForSome (W.state world.old).tree (λ tree. IsKindOf tree entry.now) }
     ensures noted { OnOk result (ForSome (W.state world.old).tree (λ tree. notes.new ≡ place_noted roots.now tree notes.old place)) }
     ensures same { Looks (W.state world.old) (W.state world.new) result }
 {
     match place {
-        StorePath::SourceLink(key) => note_source(alloc, world, roots, key, notes),
+        StorePath::SourceLink(key) => note_source(alloc, world, roots, key, entry, notes),
         StorePath::Targets(key, spot) => note_box(alloc, world, roots, key, spot, notes),
         StorePath::KernelLink(module, spot) => {
             note_link(alloc, world, roots, module, spot, notes)
@@ -214,19 +220,20 @@ fn note_place<W: World>(
     }
 }
 
-/// Notes what stands at the path.
+/// Notes what stands at the entry's path.
 pub(crate) fn note<W: World>(
     alloc: Global,
     world: &mut W,
     roots: &Roots,
-    path: &Path,
+    entry: &Met,
     notes: &mut Notes,
 ) -> Result<(), WorldError>
-    ensures noted { OnOk result (ForSome (W.state world.old).tree (λ tree. notes.new ≡ noted roots.now tree notes.old path.now)) }
+    requires { ForSome (W.state world.old).tree (λ tree. IsKindOf tree entry.now) }
+    ensures noted { OnOk result (ForSome (W.state world.old).tree (λ tree. notes.new ≡ noted roots.now tree notes.old entry.now.path)) }
     ensures same { Looks (W.state world.old) (W.state world.new) result }
 {
-    match StorePath::of(alloc, roots, path)? {
-        Some(place) => note_place(alloc, world, roots, place, notes),
+    match StorePath::of(alloc, roots, &entry.path)? {
+        Some(place) => note_place(alloc, world, roots, place, entry, notes),
         None => Ok(()),
     }
 }
@@ -239,12 +246,13 @@ pub(crate) fn note_all<W: World>(
     met: &[Met],
     notes: &mut Notes,
 ) -> Result<(), WorldError>
+    requires { ForSome (W.state world.old).tree (λ tree. AreKinds tree met.now) }
     ensures noted { OnOk result (ForSome (W.state world.old).tree (λ tree.
         notes.new ≡ noted_all roots.now tree notes.old (map (λ entry. entry.path) met.now))) }
     ensures same { Looks (W.state world.old) (W.state world.new) result }
 {
     for entry in met {
-        note(alloc, world, roots, &entry.path, notes)?;
+        note(alloc, world, roots, entry, notes)?;
     }
     Ok(())
 }

@@ -6,4 +6,4 @@ pub returns-clause-decides : goal.returns-clause-decides
 returns-clause-decides g c = much_decided c.args.roots.now c.args.from.now _ _ c.meet_to_copy.result c.meet_to_copy.ensures.decides
 
 pub returns-clause-met : goal.returns-clause-met
-returns-clause-met g c = whole_met c.args.roots.now c.args.from.now _ _ c.meet_to_copy.result c.meet_to_copy.ensures.met
+returns-clause-met g c = whole_met c.args.roots.now c.args.from.now (g.W.World.state c.args.world.now) (g.W.World.state c.meet_to_copy.new.world) c.meet_to_copy.result c.meet_to_copy.ensures.met

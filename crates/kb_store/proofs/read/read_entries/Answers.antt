@@ -1,15 +1,23 @@
 -- The walk and the notes are those of the tree.
-use Rattle.std.proofs.Common.{◌≡◌, ◌++◌, Some, Option, List, sym, ap, ◌∙◌}
+use Rattle.std.proofs.Common.{◌≡◌, ◌++◌, Some, Option, List, sym, ap, ◌∙◌, subst}
 use Rattle.std.proofs.lemmas.List.{append-nil}
 use Rattle.kb_world.specs.Path.{Path}
-use Rattle.kb_store.specs.Notes.{noted_all, notes_of, no_notes}
+use Rattle.kb_store.specs.Notes.{AreKinds, noted_all, notes_of, no_notes}
 use Rattle.kb_store.specs.Read.{paths_met, entries_over}
 use Rattle.kb_store.specs.declared.notes.Notes.{Notes}
 use Rattle.kb_walk.specs.declared.walking.Met.{Met}
+use Rattle.kb_world.specs.Public.{is_private}
+use Rattle.kb_walk.specs.Walking.{LIMITS}
+use Rattle.kb_store.proofs.KindLaws.{kinds_walked}
 use Rattle.kb_store.proofs.NotesOfLists.{noted_all_is}
 use Rattle.kb_store.proofs.ReadingLaws.{over_stands, noted_more}
 use Rattle.kb_store.proofs.read.read_entries.Goals as goal
 use Rattle.kb_store.proofs.read.read_entries.Goals.{in-Some+in_ok-note_version-in-Some, in-None}
+
+pub note_all-requires : goal.note_all-requires
+note_all-requires g c tree told =
+    subst (AreKinds tree) (sym c.as_slice.ensures)
+    (kinds_walked LIMITS tree (is_private c.args.roots.now) c.args.roots.now.dkms c.in_ok-walk.walk (c.in_ok-walk.ensures.met tree (sym c.in_ok-walk.ensures.same.unchanged.tree ∙ told)))
 
 pub note_version-requires : goal.note_version-requires
 note_version-requires g c tree told =

@@ -1,16 +1,20 @@
 -- What was read is the public tree's store.
-use Rattle.std.proofs.Common.{◌≡◌, List, Ok, Err, sym, ap, ◌∙◌}
+use Rattle.std.proofs.Common.{◌≡◌, List, Ok, Err, sym, ap, ◌∙◌, subst}
 use Rattle.kb_world.specs.Public.{public_tree}
 use Rattle.kb_world.specs.declared.stop.Stop.TheVariants.{Fault}
 use Rattle.kb_store.specs.Contents.{store_of}
-use Rattle.kb_store.specs.Notes.{noted_all, notes_of}
+use Rattle.kb_store.specs.Notes.{AreKinds, noted_all, notes_of}
 use Rattle.kb_store.specs.Read.{paths_met}
 use Rattle.kb_store.specs.declared.notes.Notes.{Notes}
 use Rattle.kb_walk.specs.declared.walking.Met.{Met}
 use Rattle.kb_store.proofs.PublicNotes.{hurt_public, store_public}
 use Rattle.kb_store.proofs.NotesOfLists.{noted_all_is}
+use Rattle.kb_store.proofs.KindLaws.{kinds_met}
 use Rattle.kb_store.proofs.ReadingLaws.{gives_read, looks_twice}
 use Rattle.kb_store.proofs.store.Store.reread.Goals as goal
+
+pub note_all-requires : goal.note_all-requires
+note_all-requires g c tree told = subst (AreKinds tree) (sym c.as_slice.ensures) (kinds_met tree c.in_ok-met.met _ (c.in_ok-met.ensures.met tree (sym c.in_ok-met.ensures.same.unchanged.tree ∙ told)))
 
 pub returns-clause-store : goal.returns-clause-store
 returns-clause-store g c =
