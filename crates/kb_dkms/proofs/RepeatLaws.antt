@@ -1,5 +1,5 @@
 -- An addition makes one store at most, and none where the package is added already.
-use Rattle.std.proofs.Common.{◌≡◌, ℕ, Bool, true, false, cond, List, [], ◌∷◌, ◌++◌, Option, Some, None, is_some, refl, sym, ap, ◌∙◌, codes}
+use Rattle.std.proofs.Common.{◌≡◌, ℕ, Bool, true, false, cond, ◌||◌, List, [], ◌∷◌, ◌++◌, Option, Some, None, is_some, refl, sym, ap, ◌∙◌, codes}
 use Rattle.std.specs.Prelude.{filter, Result, Ok, Err}
 use Rattle.std.specs.Option.{option_or}
 use Rattle.std.specs.Cmp.Lexicographic.{bytes_decides}
@@ -58,7 +58,11 @@ copy_none : (host : Host) (script : Script) (from : Path) (conf : Conf) (store f
     → LeavesNone (add_copy host script from conf) store foreign
 copy_none host script from conf store foreign added =
     none_due (no_copy host.roots conf.key from) (copy_and_run host script from conf) store foreign (refusal.AlreadyAdded conf.key)
-    (ap (λ o. option_or (option_or o _) _) (already host.roots conf.key store foreign added))
+    (first_due _ _ _ _ (refusal.AlreadyAdded conf.key) (already host.roots conf.key store foreign added))
+  where
+    first_due : (a b c d : Option Refusal) (why : Refusal) → a ≡ Some why → option_or (option_or (option_or a b) c) d ≡ Some why
+    first_due (Some due) b c d why is = is
+    first_due None b c d why is = let impossible : None ≡ Some why = is in cc
 
 tree_with_none : (host : Host) (script : Script) (from : Path) (conf : Conf) (store foreign : Tree) → is_added host.roots conf.key store ≡ true
     → LeavesNone (add_tree_with host script from conf) store foreign
