@@ -1,5 +1,5 @@
 -- An addition makes one store at most, and none where the package is added already.
-use Rattle.std.proofs.Common.{◌≡◌, ℕ, Bool, true, false, cond, List, [], ◌∷◌, ◌++◌, Option, Some, None, is_some, refl, sym, ap, ◌∙◌, codes}
+use Rattle.std.proofs.Common.{◌≡◌, ℕ, Bool, true, false, cond, ◌||◌, List, [], ◌∷◌, ◌++◌, Option, Some, None, is_some, refl, sym, ap, ◌∙◌, codes}
 use Rattle.std.specs.Prelude.{filter, Result, Ok, Err}
 use Rattle.std.specs.Option.{option_or}
 use Rattle.std.specs.Cmp.Lexicographic.{bytes_decides}
@@ -27,12 +27,13 @@ use Rattle.kb_world.proofs.PathLaws.{under-self, under-append}
 use Rattle.kb_conf.specs.Load.{loaded_conf, no_source, conf_below, bytes_at, matched}
 use Rattle.kb_conf.specs.Conf.{conf_of}
 use Rattle.kb_conf.specs.declared.conf.Conf.{Conf}
+use Rattle.kb_walk.specs.Copy.{too_much}
 use Rattle.kb_machine.specs.Outcome.{Action, unless, warn, reads, transaction, ◌or◌, ◌then◌}
 use Rattle.kb_machine.specs.Repeat.{LeavesNone, IsOnce}
 use Rattle.kb_machine.specs.Repeat.IsOnce.{none, one}
 use Rattle.kb_machine.proofs.OnceLaws.{none_due, none_unless, none_reads, once_unless, once_reads}
 use Rattle.kb_dkms.specs.Add.{add, add_with, add_and_run, already_added, source_conf, blocked, added_line, unused_lines}
-use Rattle.kb_dkms.specs.AddTree.{add_tree, add_tree_with, add_copy, copy_and_run, no_copy, holds_root, tree_conf}
+use Rattle.kb_dkms.specs.AddTree.{add_tree, add_tree_with, add_copy, copy_and_run, source_there, no_copy, holds_root, tree_conf}
 use Rattle.kb_dkms.specs.Scripts.{host_given, run_script}
 
 -- ---- a package that is added
@@ -58,7 +59,9 @@ copy_none : (host : Host) (script : Script) (from : Path) (conf : Conf) (store f
     → LeavesNone (add_copy host script from conf) store foreign
 copy_none host script from conf store foreign added =
     none_due (no_copy host.roots conf.key from) (copy_and_run host script from conf) store foreign (refusal.AlreadyAdded conf.key)
-    (ap (λ o. option_or (option_or o _) _) (already host.roots conf.key store foreign added))
+    (ap
+    (λ o. option_or (option_or (option_or o (source_there (source_path host.roots conf.key) (united store foreign))) (too_much from (united store foreign))) (blocked host.roots conf.key (united store foreign)))
+    (already host.roots conf.key store foreign added))
 
 tree_with_none : (host : Host) (script : Script) (from : Path) (conf : Conf) (store foreign : Tree) → is_added host.roots conf.key store ≡ true
     → LeavesNone (add_tree_with host script from conf) store foreign
