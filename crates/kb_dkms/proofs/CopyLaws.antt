@@ -1,7 +1,7 @@
 -- What refuses the copy of a directory is asked of the tree, and found in the whole that stands.
-use Rattle.std.proofs.Common.{◌≡◌, true, false, cond, Option, Some, None, is_some, sym, ap, ◌∙◌}
+use Rattle.std.proofs.Common.{◌≡◌, true, cond, Option, Some, None, is_some, sym, ap, ◌∙◌}
 use Rattle.std.specs.Prelude.{Result, Ok, Err, IfOk}
-use Rattle.std.specs.Option.{ForSome, option_map}
+use Rattle.std.specs.Option.{ForSome}
 use Rattle.kb_world.specs.Damage.{hurt}
 use Rattle.kb_world.specs.Read.{Decides}
 use Rattle.kb_world.specs.Layout.{whole_tree}
@@ -9,7 +9,7 @@ use Rattle.kb_machine.specs.Outcome.{◌or◌}
 use Rattle.kb_world.specs.Path.{Path}
 use Rattle.kb_world.specs.Public.{is_private, public_tree}
 use Rattle.kb_world.specs.Roots.{AreApart}
-use Rattle.kb_world.specs.State.{State, Looks}
+use Rattle.kb_world.specs.State.{State}
 use Rattle.kb_world.specs.Store.{is_key, source_path}
 use Rattle.kb_world.specs.Tree.{Tree}
 use Rattle.kb_world.specs.declared.job.Key.{Key}
@@ -18,17 +18,14 @@ use Rattle.kb_world.specs.declared.refusal.Refusal.TheVariants as refusal
 use Rattle.kb_world.specs.declared.roots.Roots.{Roots}
 use Rattle.kb_world.specs.declared.sequence.Sequence.{Sequence}
 use Rattle.kb_world.specs.declared.stop.Stop.{Stop}
-use Rattle.kb_world.specs.declared.stop.Stop.TheVariants.{Refused, Fault}
 use Rattle.kb_world.specs.declared.tree.Node.{Node}
 use Rattle.kb_world.specs.declared.world.WorldError.{WorldError}
-use Rattle.kb_world.proofs.CallLaws.{cause_other}
 use Rattle.kb_world.proofs.LayoutLaws.{whole_shown}
 use Rattle.kb_walk.specs.Copy.{met_below, too_much, too_much_met}
 use Rattle.kb_walk.specs.Walking.{LIMITS, walked}
 use Rattle.kb_walk.specs.declared.walking.Met.{Met}
 use Rattle.kb_walk.specs.declared.walking.Walk.{Walk}
 use Rattle.kb_walk.proofs.WholeLaws.{walked_whole}
-use Rattle.kb_intent.proofs.StopLaws.{done_cause}
 use Rattle.kb_dkms.specs.Add.{already_added, blocked}
 use Rattle.kb_dkms.specs.AddTree.{source_there, package_there, no_copy}
 use Rattle.kb_dkms.specs.Places.{package_places, standing, place_blocked}

@@ -1,18 +1,17 @@
 -- An addition makes one store at most, and none where the package is added already.
-use Rattle.std.proofs.Common.{◌≡◌, ℕ, Bool, true, false, cond, ◌||◌, List, [], ◌∷◌, ◌++◌, Option, Some, None, is_some, refl, sym, ap, ◌∙◌, codes}
-use Rattle.std.specs.Prelude.{filter, Result, Ok, Err}
+use Rattle.std.proofs.Common.{◌≡◌, ℕ, Bool, true, false, cond, ◌||◌, List, [], ◌∷◌, ◌++◌, Option, Some, None, refl, sym, ap, ◌∙◌, codes}
+use Rattle.std.specs.Prelude.{filter, Result, Ok}
 use Rattle.std.specs.Option.{option_or}
 use Rattle.std.specs.Cmp.Lexicographic.{bytes_decides}
 use Rattle.std.specs.Cmp.Derive.{both_true}
 use Rattle.kb_world.specs.Layout.{united}
-use Rattle.kb_world.specs.Path.{Path, child, is_under}
-use Rattle.kb_world.specs.Patch.{put_at, patched}
-use Rattle.kb_world.specs.Script.{Script, answer_in}
+use Rattle.kb_world.specs.Path.{Path, is_under}
+use Rattle.kb_world.specs.Patch.{put_at}
+use Rattle.kb_world.specs.Script.{Script}
 use Rattle.kb_world.specs.Steps.{add_step, add_tree_step, add_tree_patch, source_copy}
-use Rattle.kb_world.specs.Store.{is_added, same_key, says, link_path, source_path, source_text}
-use Rattle.kb_world.specs.Tree.{Tree, node_at, link_text, is_leaf, is_dir, is_file, file_bytes}
+use Rattle.kb_world.specs.Store.{is_added, says, link_path, source_path, source_text}
+use Rattle.kb_world.specs.Tree.{Tree, node_at, link_text, is_leaf}
 use Rattle.kb_world.specs.TreeLaws.{same_path, same_path-refl}
-use Rattle.kb_world.specs.declared.child.Reply.{Reply}
 use Rattle.kb_world.specs.declared.job.Host.{Host}
 use Rattle.kb_world.specs.declared.job.Key.{Key}
 use Rattle.kb_world.specs.declared.refusal.Refusal.{Refusal}
@@ -24,15 +23,15 @@ use Rattle.kb_world.proofs.AddLaws as adds
 use Rattle.kb_world.proofs.LayoutLaws.{node_at-united}
 use Rattle.kb_world.proofs.PatchLaws.{patched-put}
 use Rattle.kb_world.proofs.PathLaws.{under-self, under-append}
-use Rattle.kb_conf.specs.Load.{loaded_conf, no_source, conf_below, bytes_at, matched}
-use Rattle.kb_conf.specs.Conf.{conf_of}
+use Rattle.kb_conf.specs.Load.{loaded_conf, conf_below}
 use Rattle.kb_conf.specs.declared.conf.Conf.{Conf}
-use Rattle.kb_machine.specs.Outcome.{Action, unless, warn, reads, transaction, ◌or◌, ◌then◌}
+use Rattle.kb_walk.specs.Copy.{too_much}
+use Rattle.kb_machine.specs.Outcome.{unless, reads, transaction, ◌then◌}
 use Rattle.kb_machine.specs.Repeat.{LeavesNone, IsOnce}
 use Rattle.kb_machine.specs.Repeat.IsOnce.{none, one}
-use Rattle.kb_machine.proofs.OnceLaws.{none_due, none_unless, none_reads, once_unless, once_reads}
-use Rattle.kb_dkms.specs.Add.{add, add_with, add_and_run, already_added, source_conf, blocked, added_line, unused_lines}
-use Rattle.kb_dkms.specs.AddTree.{add_tree, add_tree_with, add_copy, copy_and_run, no_copy, holds_root, tree_conf}
+use Rattle.kb_machine.proofs.OnceLaws.{none_due, none_reads, once_unless, once_reads}
+use Rattle.kb_dkms.specs.Add.{add, add_with, add_and_run, already_added, source_conf, blocked, added_line}
+use Rattle.kb_dkms.specs.AddTree.{add_tree, add_tree_with, add_copy, copy_and_run, source_there, no_copy, tree_conf}
 use Rattle.kb_dkms.specs.Scripts.{host_given, run_script}
 
 -- ---- a package that is added
@@ -58,11 +57,9 @@ copy_none : (host : Host) (script : Script) (from : Path) (conf : Conf) (store f
     → LeavesNone (add_copy host script from conf) store foreign
 copy_none host script from conf store foreign added =
     none_due (no_copy host.roots conf.key from) (copy_and_run host script from conf) store foreign (refusal.AlreadyAdded conf.key)
-    (first_due _ _ _ _ (refusal.AlreadyAdded conf.key) (already host.roots conf.key store foreign added))
-  where
-    first_due : (a b c d : Option Refusal) (why : Refusal) → a ≡ Some why → option_or (option_or (option_or a b) c) d ≡ Some why
-    first_due (Some due) b c d why is = is
-    first_due None b c d why is = let impossible : None ≡ Some why = is in cc
+    (ap
+    (λ o. option_or (option_or (option_or o (source_there (source_path host.roots conf.key) (united store foreign))) (too_much from (united store foreign))) (blocked host.roots conf.key (united store foreign)))
+    (already host.roots conf.key store foreign added))
 
 tree_with_none : (host : Host) (script : Script) (from : Path) (conf : Conf) (store foreign : Tree) → is_added host.roots conf.key store ≡ true
     → LeavesNone (add_tree_with host script from conf) store foreign
@@ -76,8 +73,8 @@ pub add_tree_none : (host : Host) (script : Script) (from : Path) (conf : Conf) 
     → is_added host.roots conf.key store ≡ true → LeavesNone (add_tree host script from) store foreign
 add_tree_none host script from conf store foreign read added =
     none_reads (tree_conf host from) (add_tree_with host script from) store foreign (λ value is.
-        let same : value ≡ conf = one_value value conf (sym is ∙ read) in
-        ap (λ c. (add_tree_with host script from c store foreign).after) same ∙ tree_with_none host script from conf store foreign added)
+    let same : value ≡ conf = one_value value conf (sym is ∙ read) in
+    ap (λ c. (add_tree_with host script from c store foreign).after) same ∙ tree_with_none host script from conf store foreign added)
   where
     one_value : (a b : Conf) → ◌≡◌ {A = Result Conf Refusal} (Ok a) (Ok b) → a ≡ b
     one_value a b e = cc
@@ -131,8 +128,8 @@ copy_once Holds host script from conf store foreign holds = warned
     (once_reads Holds Ok
     (λ whole. transaction (add_tree_step host.roots conf.key from whole) (added_line conf.key) then run_script host.roots script (host_given host) conf.key (codes "POST_ADD") conf.scripts.post_add)
     store foreign (λ whole is.
-        step_once Holds host script (add_tree_step host.roots conf.key from whole) (added_line conf.key) conf.key conf.scripts.post_add store foreign
-        (holds (add_tree_step host.roots conf.key from whole store) (added_tree_once host.roots conf.key from whole store)))))
+    step_once Holds host script (add_tree_step host.roots conf.key from whole) (added_line conf.key) conf.key conf.scripts.post_add store foreign
+    (holds (add_tree_step host.roots conf.key from whole store) (added_tree_once host.roots conf.key from whole store)))))
   where
     warned : IsOnce Holds (unless (no_copy host.roots conf.key from) then copy_and_run host script from conf) store foreign → IsOnce Holds (add_copy host script from conf) store foreign
     warned (none empty) = none empty

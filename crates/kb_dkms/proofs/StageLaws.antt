@@ -1,5 +1,5 @@
 -- Files and links are staged below the root of sources, one behind another.
-use Rattle.std.proofs.Common.{◌≡◌, ℕ, ◌+◌, ◌<◌, ◌^◌, false, true, cond, not, ◌&&◌, List, [], ◌∷◌, ◌++◌, length, take, get_or, map, Option, Some, None, refl, sym, ap, ◌∙◌, subst, append_assoc, arith, length-append}
+use Rattle.std.proofs.Common.{◌≡◌, ℕ, ◌+◌, ◌<◌, ◌^◌, false, true, cond, not, ◌&&◌, List, [], ◌∷◌, ◌++◌, length, take, get_or, map, Option, Some, refl, sym, ap, ◌∙◌, subst, append_assoc, arith, length-append}
 use Rattle.std.proofs.lemmas.List.{append-nil, map-append, length-take-le}
 use Rattle.std.proofs.lemmas.List.Elements.{filter_more, All-get_or}
 use Rattle.std.proofs.lemmas.List.Filters.{length-filter_both}
@@ -12,10 +12,9 @@ use Rattle.kb_world.specs.Public.{intent_path, is_private, staging_path}
 use Rattle.kb_world.specs.Roots.{AreApart}
 use Rattle.kb_world.specs.State.{State, Looks, Unchanged}
 use Rattle.kb_world.specs.Stop.{stop_for}
-use Rattle.kb_world.specs.Tree.{Tree, node_at, kind_of, is_dir, file_bytes, link_text}
+use Rattle.kb_world.specs.Tree.{Tree, node_at, kind_of, is_dir}
 use Rattle.kb_world.specs.declared.roots.Roots.{Roots}
 use Rattle.kb_world.specs.declared.stop.Stop.{Stop}
-use Rattle.kb_world.specs.declared.tree.Kind.TheVariants as kind
 use Rattle.kb_world.specs.declared.tree.Node.{Node}
 use Rattle.kb_world.specs.declared.tree.Node.TheVariants as node
 use Rattle.kb_world.specs.declared.world.WorldError.{WorldError}

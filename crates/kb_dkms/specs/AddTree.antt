@@ -1,6 +1,6 @@
 -- The action `dkms add` of a directory: its refusals in their order, its warnings, its transaction and its script. After
 -- dkms(8); which directories are no source, and the limits, are this project's own.
-use Rattle.std.specs.Prelude.{Bool, cond, List, [], ◌∷◌, codes, Option, Some, None, is_some, Result, Ok, Err}
+use Rattle.std.specs.Prelude.{Bool, cond, ◌∷◌, codes, Option, Some, None, is_some, Result, Ok, Err}
 use Rattle.std.specs.List.{list_any}
 use Rattle.kb_world.specs.Path.{Path, is_under}
 use Rattle.kb_world.specs.Tree.{Tree, node_at}
