@@ -156,10 +156,11 @@ fn copy(
     if from.is_under(to) || to.is_under(from) {
         return Err(LineError::NoCopy);
     }
-    match (world.node(from), world.node(to), world.node(&to.parent()?)) {
-        (Some(Node::Dir), None, Some(Node::Dir)) => Ok(copy_tree(alloc, world, from, to).err()),
-        _ => Err(LineError::NoCopy),
+    let parent = to.parent()?;
+    if !is_dir(world, from) || world.node(to).is_some() || !is_dir(world, &parent) {
+        return Err(LineError::NoCopy);
     }
+    Ok(copy_tree(alloc, world, from, to).err())
 }
 
 // The store as it is read inside a command, once it was read without a refusal.
