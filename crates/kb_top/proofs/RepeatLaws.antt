@@ -13,7 +13,7 @@ use Rattle.kb_world.specs.declared.refusal.Refusal.{Refusal}
 use Rattle.kb_world.specs.declared.roots.Roots.{Roots}
 use Rattle.kb_changes.specs.declared.change.Intent.{Intent}
 use Rattle.kb_conf.specs.declared.conf.Conf.{Conf}
-use Rattle.kb_machine.specs.Outcome.{Outcome, Action, last_of, reads, print}
+use Rattle.kb_machine.specs.Outcome.{Outcome, Action, last_of, reads, print, ◌then◌}
 use Rattle.kb_machine.specs.Repeat.{LeavesNone, IsOnce, ComesToSame}
 use Rattle.kb_machine.specs.Repeat.IsOnce.{none, one}
 use Rattle.kb_machine.specs.Stands.{IsOneOf, OpensOneOf}

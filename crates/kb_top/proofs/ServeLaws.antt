@@ -9,7 +9,7 @@ use Rattle.kb_world.specs.Path.{Path}
 use Rattle.kb_world.specs.Tree.{Tree, node_at, is_dir}
 use Rattle.kb_world.specs.Roots.{AreApart}
 use Rattle.kb_world.specs.State.{State}
-use Rattle.kb_world.specs.Public.{public_tree}
+use Rattle.kb_world.specs.Public.{foreign_tree, public_tree}
 use Rattle.kb_world.specs.Layout.{whole_tree}
 use Rattle.kb_machine.specs.Outcome.{refuse_if, print, ◌then◌}
 use Rattle.kb_world.specs.Read.{IsRead}
@@ -121,7 +121,7 @@ refused_so roots state report why = record {
     cause = record { later = omega arith; rose = λ failed. absurd (no_fault failed); steady = λ is. is; never = λ told is failed. no_fault failed };
   };
   survives = λ tree told rooted rests. record { each_moment = adds_none _ state.history state.history refl; end = rests };
-  behind = λ tree told rooted. behind_none roots _ tree state state told refl;
+  behind = λ tree told rooted. behind_none roots (refuse_if (Some why) (public_tree roots tree) (foreign_tree roots tree)) tree state state told refl;
 }
   where
     stopped : Stop → Result (Unit {0}) Stop
