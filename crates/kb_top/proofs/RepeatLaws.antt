@@ -1,23 +1,21 @@
 -- The same words again come to the same store.
-use Rattle.std.proofs.Common.{◌≡◌, ℕ, Bool, true, false, List, [], ◌∷◌, Option, Some, None, Result, Ok, Err, refl, sym, ap, ◌∙◌, subst, inl, inr}
+use Rattle.std.proofs.Common.{◌≡◌, Bool, true, false, List, ◌∷◌, Option, Result, Ok, Err, refl, sym, ap, ◌∙◌, subst, inl}
 use Rattle.kb_world.specs.Layout.{united}
-use Rattle.kb_world.specs.Path.{Path, is_under}
+use Rattle.kb_world.specs.Path.{Path}
 use Rattle.kb_world.specs.Public.{public_tree, foreign_tree}
 use Rattle.kb_world.specs.Script.{Script}
 use Rattle.kb_world.specs.Store.{is_added}
-use Rattle.kb_world.specs.Tree.{Tree, node_at}
+use Rattle.kb_world.specs.Tree.{Tree}
 use Rattle.kb_world.specs.declared.job.Filter.{Filter}
 use Rattle.kb_world.specs.declared.job.Host.{Host}
-use Rattle.kb_world.specs.declared.job.Key.{Key}
 use Rattle.kb_world.specs.declared.refusal.Refusal.{Refusal}
 use Rattle.kb_world.specs.declared.roots.Roots.{Roots}
 use Rattle.kb_changes.specs.declared.change.Intent.{Intent}
 use Rattle.kb_conf.specs.declared.conf.Conf.{Conf}
-use Rattle.kb_machine.specs.Outcome.{Outcome, Action, last_of, reads, print, ◌then◌}
-use Rattle.kb_machine.specs.Repeat.{LeavesNone, IsOnce, ComesToSame}
+use Rattle.kb_machine.specs.Outcome.{Action, last_of, print, ◌then◌}
+use Rattle.kb_machine.specs.Repeat.{LeavesNone, IsOnce}
 use Rattle.kb_machine.specs.Repeat.IsOnce.{none, one}
 use Rattle.kb_machine.specs.Stands.{IsOneOf, OpensOneOf}
-use Rattle.kb_machine.specs.Opens.{IsReady}
 use Rattle.kb_machine.proofs.OnceLaws.{none_unless, none_reads, once_unless, once_reads, once_same}
 use Rattle.kb_store.specs.Read.{read_of}
 use Rattle.kb_status.specs.Status.{text_of_status}
@@ -28,7 +26,7 @@ use Rattle.kb_words.specs.declared.command.Command.TheVariants as command
 use Rattle.kb_dkms.specs.Add.{add}
 use Rattle.kb_dkms.specs.AddTree.{add_tree, tree_conf}
 use Rattle.kb_dkms.proofs.RepeatLaws.{add_none, add_tree_none, add_once, add_tree_once, same_conf}
-use Rattle.kb_top.specs.Machine.{known_host, no_root, no_roots_of_add, add_to_store, perform_add, print_status, perform_status, perform, perform_read, machine, telling, is_recovery, journal_words, outcome_of}
+use Rattle.kb_top.specs.Machine.{known_host, no_root, no_roots_of_add, add_to_store, perform_add, print_status, perform_status, perform_read, machine, telling, is_recovery, journal_words, outcome_of}
 use Rattle.kb_top.specs.Repeat.{AreAlikeBelow, KeepDirectory, ComesToSameStore}
 
 -- ---- an addition behind its roots and its store

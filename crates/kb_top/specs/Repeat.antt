@@ -1,5 +1,5 @@
 -- The same words again, behind a call that a crash cut off. This project's own.
-use Rattle.std.specs.Prelude.{◌≡◌, true, List, ◌∷◌, Option, Result, Ok, Err}
+use Rattle.std.specs.Prelude.{◌≡◌, true, List, Option, Result, Ok, Err}
 use Rattle.kb_world.specs.Layout.{united}
 use Rattle.kb_world.specs.Path.{Path, is_under}
 use Rattle.kb_world.specs.Public.{public_tree, foreign_tree}

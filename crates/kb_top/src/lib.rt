@@ -14,7 +14,5 @@ mod tell;
 
 pub use call::{run, start};
 pub use end::End;
-pub use laws::{
-    repeating_comes_to_the_same_store, settings_are_good_or_bad, what_stands_is_ready,
-};
+pub use laws::{repeating_comes_to_the_same_store, settings_are_good_or_bad, what_stands_is_ready};
 pub use setting::{Setting, SettingError, host_of};
